@@ -1,10 +1,14 @@
 -- The forest that stays from load to load.
-use Rattle.std.proofs.Common.{◌≡◌, ℕ, ◌<◌, ◌≤◌, ◌+◌, ◌&&◌, true, Some, List, [], ◌∷◌, length, take, nat_eq, refl, ap, sym, ◌∙◌, subst, slice_get, arith}
+use Rattle.std.proofs.Common.{◌≡◌, ℕ, ◌<◌, ◌≤◌, ◌+◌, ◌&&◌, Bool, true, Result, Ok, Err, OnOk, Some, List, [], ◌∷◌, length, take, nat_eq, refl, ap, sym, ◌∙◌, subst, slice_get, arith}
 use Rattle.std.specs.{Cmp.Lexicographic.pointwise, Option.option_map}
 use Rattle.diag_sweep.proofs.Vocabulary.{false≢true, and_parts, nat_tests, length-map, Cross, among, cross_numbers, Kept, keeps_cross}
+use Rattle.diag_sweep.proofs.Vocabulary.{RigState, Advances, advances_itself, advances_then, IsMore, HasRetaken, Field, Table, Hand, IsHand, Goes}
 use Rattle.std.proofs.lemmas.Option.{slice_get-map, slice_get_within}
 use Rattle.machine_shape.specs.declared.Counts.{Counts}
+use Rattle.diag_evidence.specs.Vocabulary.{Trees, KeepsForest}
+use Rattle.diag_evidence.proofs.Keeping.{retaken_cross, retaken_shape}
 use Rattle.diag_sweep.proofs.Coursing.{each_more, each_whole}
+use Rattle.diag_sweep.proofs.Going.{goes_itself, goes_on}
 
 -- what the test of numbers and lists of them shows
 one_number : (a b : ℕ) → nat_eq a b ≡ true → a ≡ b
@@ -47,3 +51,31 @@ kept_more k xs n x here each one = each_more (λ y. keeps_cross k y ≡ true) (c
 
 pub kept_whole : (k : Kept) (xs : List Cross) (n : ℕ) → length xs ≤ n → AreKept k (take n (cross_numbers xs)) → AreKept k (cross_numbers xs)
 kept_whole k xs n whole each = each_whole (λ y. keeps_cross k y ≡ true) (cross_numbers xs) n (subst (λ l. l ≤ n) (sym (length-map xs (λ (c : Cross). c.0))) whole) each
+
+-- what is held is kept behind tests, and where wires left the set
+pub held_more : {k l : Kept} {trees : Trees} → IsMore k l → KeepsForest k trees → KeepsForest l trees
+held_more more keeps = record { shape = keeps.shape ∙ sym more.shape; crosses = λ x on. more.crosses x (keeps.crosses x on) }
+
+pub held_same : {k : Kept} {trees new : Trees} → new ≡ trees → KeepsForest k trees → KeepsForest k new
+held_same {k} same keeps = subst (KeepsForest k) (sym same) keeps
+
+pub held_retaken : {wires : List Bool} (k l : Kept) (trees : Trees) {T E : Type 0} (r : Result T E) → HasRetaken wires k l → OnOk r (KeepsForest k trees) → OnOk r (KeepsForest l trees)
+held_retaken k l trees (Ok v) ret keeps = record { shape = keeps.shape ∙ sym (retaken_shape ret); crosses = λ x on. retaken_cross ret x ∙ keeps.crosses x on }
+held_retaken k l trees (Err e) ret keeps = tt
+
+pub held_tested : {k l : Kept} {trees : Trees} {T E : Type 0} (r : Result T E) → IsMore k l → KeepsForest k trees → OnOk r (KeepsForest l trees)
+held_tested (Ok v) more keeps = held_more more keeps
+held_tested (Err e) more keeps = tt
+
+-- what loads over one forest have made of what is in hand so far
+pub record HasHeld (first now : RigState) (j k : Kept) (a : Field) (tables : List Table) (old new : Hand) (trees : Trees) : Type 0 where
+  pub hand : IsHand a new
+  pub goes : Goes now a tables old new
+  pub advances : Advances first now j k
+  pub forest : KeepsForest k trees
+
+pub held_none : {r : RigState} {k : Kept} {a : Field} {tables : List Table} {h : Hand} {trees : Trees} → IsHand a h → KeepsForest k trees → HasHeld r r k k a tables h h trees
+held_none {r} {k} hand keeps = record { hand = hand; goes = goes_itself hand; advances = advances_itself r k; forest = keeps }
+
+pub held_on : {r s t : RigState} {j k l : Kept} {a : Field} {tables : List Table} {x y z : Hand} {trees new : Trees} → HasHeld r s j k a tables x y trees → Goes t a tables y z → Advances s t k l → KeepsForest l new → HasHeld r t j l a tables x z new
+held_on p q on keeps = record { hand = q.hand; goes = goes_on p.goes on q; advances = advances_then p.advances on; forest = keeps }

@@ -4,7 +4,7 @@ use Rattle.diag_sweep.proofs.Vocabulary.{false≢true, or_cases, and_parts, or_r
 use Rattle.diag_sweep.proofs.Vocabulary.{RigState, ForEach, advances_itself, advances_then, of_told, trial_by_gain, KnownWires, Field}
 use Rattle.diag_sweep.proofs.Vocabulary.{HasTable, MarksSome, MarksIn, TrueIf, Goes, GoesYet, Hand, IsHand, in_hand, DefectMarks}
 use Rattle.diag_sweep.proofs.Vocabulary.{LoadBudget}
-use Rattle.diag_evidence.specs.Vocabulary.{Trees, Kept, Advances, HoldsFor, IsMore, KeepsSet, ShowsTabled, WrongIf, is_one_of, is_right_before, output_pin, right_parts}
+use Rattle.diag_evidence.specs.Vocabulary.{Trees, Kept, Advances, HoldsFor, IsMore, KeepsForest, KeepsSet, ShowsTabled, WrongIf, is_one_of, is_right_before, output_pin, right_parts}
 use Rattle.diag_sweep.proofs.Going.{goes_itself, goes_on, goes_tested}
 use Rattle.diag_sweep.proofs.Marking.{true_later, some_itself}
 
@@ -67,16 +67,17 @@ table_goes {now} {a} {k} {l} {known} {bad} {wrong} {budget} {before} {after} tab
 pub table_on : {a : Field} {ts us : List Table} {x y z : Hand} {r s : RigState} {k l : Kept} → us ≡ ts → Goes r a ts x y → Advances r s k l → Goes s a us y z → Goes s a ts x z
 table_on {a = a} {y = y} {z = z} {s = s} same p on q = goes_on p on (subst (λ (t : List Table). Goes s a t y z) same q)
 
--- what tests of tables have made of what is in hand so far, and the tables are as they were
-pub record HasTested (first now : RigState) (j k : Kept) (a : Field) (given : List Table) (old new : Hand) {T : Type 0} (was is : T) : Type 0 where
+-- what tests of tables have made of what is in hand so far; the tables are as they were, and the forest is kept
+pub record HasTested (first now : RigState) (j k : Kept) (a : Field) (given : List Table) (old new : Hand) {T : Type 0} (was is : T) (trees : Trees) : Type 0 where
   pub hand : IsHand a new
   pub goes : Goes now a given old new
   pub tables : is ≡ was
   pub advances : Advances first now j k
+  pub forest : KeepsForest k trees
 
-pub tested_none : {r : RigState} {k : Kept} {a : Field} {given : List Table} {h : Hand} {T : Type 0} {was : T} → IsHand a h → HasTested r r k k a given h h was was
-tested_none {r} {k} hand = record { hand = hand; goes = goes_itself hand; tables = refl; advances = advances_itself r k }
+pub tested_none : {r : RigState} {k : Kept} {a : Field} {given : List Table} {h : Hand} {T : Type 0} {was : T} {trees : Trees} → IsHand a h → KeepsForest k trees → HasTested r r k k a given h h was was trees
+tested_none {r} {k} hand keeps = record { hand = hand; goes = goes_itself hand; tables = refl; advances = advances_itself r k; forest = keeps }
 
-pub tested_on : {r s t : RigState} {j k l : Kept} {a : Field} {given those : List Table} {x y z : Hand} {T : Type 0} {was is new : T} → HasTested r s j k a given x y was is → those ≡ given → Goes t a those y z → new ≡ is → Advances s t k l →
-    HasTested r t j l a given x z was new
-tested_on p same q tables on = record { hand = q.hand; goes = table_on same p.goes on q; tables = tables ∙ p.tables; advances = advances_then p.advances on }
+pub tested_on : {r s t : RigState} {j k l : Kept} {a : Field} {given those : List Table} {x y z : Hand} {T : Type 0} {was is more : T} {trees new : Trees} → HasTested r s j k a given x y was is trees → those ≡ given → Goes t a those y z → more ≡ is → Advances s t k l → KeepsForest l new →
+    HasTested r t j l a given x z was more new
+tested_on p same q tables on keeps = record { hand = q.hand; goes = table_on same p.goes on q; tables = tables ∙ p.tables; advances = advances_then p.advances on; forest = keeps }

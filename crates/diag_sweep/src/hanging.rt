@@ -1,8 +1,9 @@
 //! Loads of hangs: looked at, paid for, and made.
-ghost use Rattle.std.specs.Prelude.{◌≡◌, [], Some, IsErrOf};
+ghost use Rattle.std.specs.Prelude.{◌≡◌, [], Some, IsErrOf, OnOk};
 ghost use Rattle.base_io.specs.Counts.{Rose};
 ghost use Rattle.rig.specs.Rig.{shape_of};
 ghost use Rattle.diag_evidence.specs.Kept.{Advances};
+ghost use Rattle.diag_evidence.specs.Forests.{KeepsForest};
 ghost use Rattle.diag_sweep.specs.Stages.{GoesYet, IsHand, in_hand};
 
 use crate::defect_marks::DefectMarks;
@@ -54,8 +55,10 @@ pub(crate) fn hang_load(
 ) -> Result<(), RigFail>
     requires attached { shape_of (rig_state rig.old) ≡ Some facts.old.shape }
     requires hand { IsHand field.now (in_hand facts.old known.now bad.old state.old.budget (rig_state rig.old).loads) }
+    requires forest { KeepsForest facts.old state.old.held.forest }
     ensures goes { GoesYet (rig_state rig.new) field.now [] (in_hand facts.old known.now bad.old state.old.budget (rig_state rig.old).loads)
         (in_hand facts.new known.now bad.new state.new.budget (rig_state rig.new).loads) }
+    ensures forest { OnOk result (KeepsForest facts.new state.new.held.forest) }
     ensures advances { Advances (rig_state rig.old) (rig_state rig.new) facts.old facts.new }
     ensures cause { IsErrOf result RigFail.Failed → Rose (rig_state rig.old).failures (rig_state rig.new).failures }
 {

@@ -32,12 +32,16 @@ pub(crate) fn bare_forest(alloc: Global, shape: &Shape) -> Result<HeldForest, Al
 }
 
 /// All is laid anew for the next load, as another search has linked it: one that has drawn its forest at least once.
-pub(crate) fn forget(held: &mut HeldForest) {
+pub(crate) fn forget(held: &mut HeldForest)
+    ensures { held.new.forest ≡ held.old.forest }
+{
     held.round = 0;
 }
 
 /// The same, where something was planted besides.
-pub(crate) fn forget_where(held: &mut HeldForest, planted: bool) {
+pub(crate) fn forget_where(held: &mut HeldForest, planted: bool)
+    ensures { held.new.forest ≡ held.old.forest }
+{
     if planted {
         forget(held);
     }
@@ -89,8 +93,8 @@ fn is_kept(facts: &Facts, forest: &Forest) -> bool
     are_kept(facts, forest.crosses())
 }
 
-// Nothing is laid any more, where the search has drawn its forest anew.
-fn begin_round(
+// Nothing is laid any more: the next load lays all of the search's forest, as it is drawn now.
+fn start_anew(
     held: &mut HeldForest,
     alloc: Global,
     facts: &Facts,
@@ -98,13 +102,42 @@ fn begin_round(
 ) -> Result<(), AllocError>
     ensures { OnOk result (KeepsForest facts.now held.new.forest) }
 {
-    if held.round == round && is_kept(facts, &held.forest) {
-        return Ok(());
-    }
     held.forest = Forest::new(alloc, &facts.shape())?;
     held.laid = 0;
     held.round = round;
     Ok(())
+}
+
+/// Looks once for many loads whether what is held is kept, as facts only grow from one to the next. Nothing is laid any more where it
+/// isn't, or the search has drawn its forest anew.
+pub(crate) fn begin_held(
+    held: &mut HeldForest,
+    alloc: Global,
+    facts: &Facts,
+    planned: &PlannedForest,
+) -> Result<(), AllocError>
+    ensures { OnOk result (KeepsForest facts.now held.new.forest) }
+{
+    if held.round == planned.round && is_kept(facts, &held.forest) {
+        return Ok(());
+    }
+    start_anew(held, alloc, facts, planned.round)
+}
+
+// Nothing is laid any more, where the search has drawn its forest anew.
+fn begin_round(
+    held: &mut HeldForest,
+    alloc: Global,
+    facts: &Facts,
+    round: u64,
+) -> Result<(), AllocError>
+    requires { KeepsForest facts.now held.old.forest }
+    ensures { OnOk result (KeepsForest facts.now held.new.forest) }
+{
+    if held.round == round {
+        return Ok(());
+    }
+    start_anew(held, alloc, facts, round)
 }
 
 /// Lays what the search has linked since the last load, and all of it where it has drawn its forest anew.
@@ -114,6 +147,7 @@ pub(crate) fn hold(
     facts: &Facts,
     planned: &PlannedForest,
 ) -> Result<(), AllocError>
+    requires { KeepsForest facts.now held.old.forest }
     ensures { OnOk result (KeepsForest facts.now held.new.forest) }
 {
     begin_round(held, alloc, facts, planned.round)?;

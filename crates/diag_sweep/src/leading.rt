@@ -1,5 +1,5 @@
 //! Loads of walks: looked at, paid for, and made.
-ghost use Rattle.std.specs.Prelude.{◌≡◌, [], true, Some, IsErrOf, length};
+ghost use Rattle.std.specs.Prelude.{◌≡◌, [], true, Some, IsErrOf, OnOk, length};
 ghost use Rattle.base_io.specs.Counts.{Rose};
 ghost use Rattle.machine_shape.specs.Shape.{crosses_of};
 ghost use Rattle.rig.specs.Rig.{shape_of};
@@ -11,7 +11,7 @@ ghost use Rattle.diag_sweep.specs.Stages.{Goes, IsHand, Settles, in_hand};
 use crate::branching::{course_of, plant_ends};
 use crate::budget::LoadBudget;
 use crate::defect_marks::DefectMarks;
-use crate::held::{forget_where, hold};
+use crate::held::{begin_held, forget_where, hold};
 use crate::informing::note_walks;
 use crate::sweep_state::SweepState;
 use diag_evidence::Facts;
@@ -92,8 +92,10 @@ fn lead_turn(
 ) -> Result<bool, RigFail>
     requires attached { shape_of (rig_state rig.old) ≡ Some facts.old.shape }
     requires hand { IsHand field.now (in_hand facts.old known.now bad.old state.old.budget (rig_state rig.old).loads) }
+    requires forest { KeepsForest facts.old state.old.held.forest }
     ensures goes { Goes (rig_state rig.new) field.now [] (in_hand facts.old known.now bad.old state.old.budget (rig_state rig.old).loads)
         (in_hand facts.new known.now bad.new state.new.budget (rig_state rig.new).loads) }
+    ensures forest { OnOk result (KeepsForest facts.new state.new.held.forest) }
     ensures advances { Advances (rig_state rig.old) (rig_state rig.new) facts.old facts.new }
     ensures cause { IsErrOf result RigFail.Failed → Rose (rig_state rig.old).failures (rig_state rig.new).failures }
 {
@@ -122,7 +124,7 @@ fn lead_turn(
 }
 
 // Leads walks through the crossbars of a depth, until no more are found or can be paid.
-#[tactic(auto, using(crate::proofs::Going::gone_none))]
+#[tactic(auto, using(crate::proofs::Holding::held_none))]
 fn lead_depth(
     rig: &mut Box<dyn Rig>,
     facts: &mut Facts,
@@ -139,6 +141,9 @@ fn lead_depth(
     ensures cause { IsErrOf result RigFail.Failed → Rose (rig_state rig.old).failures (rig_state rig.new).failures }
 {
     let Ok(()) = state.search.begin_walks(state.depth) else {
+        return Err(RigFail::Memory);
+    };
+    let Ok(()) = begin_held(&mut state.held, known.alloc(), facts, &state.search.forest) else {
         return Err(RigFail::Memory);
     };
     'loads: for _load in 0..MOST_LOADS {

@@ -1,5 +1,5 @@
 //! A load of tables: looked at, paid for, and made.
-ghost use Rattle.std.specs.Prelude.{◌≡◌, Some, IsErrOf};
+ghost use Rattle.std.specs.Prelude.{◌≡◌, Some, IsErrOf, OnOk};
 ghost use Rattle.base_io.specs.Counts.{Rose};
 ghost use Rattle.rig.specs.Rig.{shape_of};
 ghost use Rattle.diag_evidence.specs.Kept.{Advances};
@@ -8,7 +8,7 @@ ghost use Rattle.diag_sweep.specs.Stages.{Goes, IsHand, in_hand};
 
 use crate::defect_marks::DefectMarks;
 use crate::fits::{are_fit, are_given, table_forest};
-use crate::held::hold;
+use crate::held::{begin_held, hold};
 use crate::informing::choose_tables;
 use crate::sweep_state::TableSweep;
 use crate::trees::is_known;
@@ -79,9 +79,11 @@ fn table_turn(
 ) -> Result<bool, RigFail>
     requires attached { shape_of (rig_state rig.old) ≡ Some facts.old.shape }
     requires hand { IsHand field.now (in_hand facts.old known.now bad.old table_sweep.old.state.budget (rig_state rig.old).loads) }
+    requires forest { KeepsForest facts.old table_sweep.old.state.held.forest }
     ensures goes { Goes (rig_state rig.new) field.now table_sweep.old.tables.items (in_hand facts.old known.now bad.old
         table_sweep.old.state.budget (rig_state rig.old).loads) (in_hand facts.new known.now bad.new table_sweep.new.state.budget
         (rig_state rig.new).loads) }
+    ensures forest { OnOk result (KeepsForest facts.new table_sweep.new.state.held.forest) }
     ensures tables { table_sweep.new.tables ≡ table_sweep.old.tables }
     ensures advances { Advances (rig_state rig.old) (rig_state rig.new) facts.old facts.new }
     ensures cause { IsErrOf result RigFail.Failed → Rose (rig_state rig.old).failures (rig_state rig.new).failures }
@@ -122,9 +124,11 @@ fn test_chip(
 ) -> Result<(), RigFail>
     requires attached { shape_of (rig_state rig.old) ≡ Some facts.old.shape }
     requires hand { IsHand field.now (in_hand facts.old known.now bad.old table_sweep.old.state.budget (rig_state rig.old).loads) }
+    requires forest { KeepsForest facts.old table_sweep.old.state.held.forest }
     ensures goes { Goes (rig_state rig.new) field.now table_sweep.old.tables.items (in_hand facts.old known.now bad.old
         table_sweep.old.state.budget (rig_state rig.old).loads) (in_hand facts.new known.now bad.new table_sweep.new.state.budget
         (rig_state rig.new).loads) }
+    ensures forest { OnOk result (KeepsForest facts.new table_sweep.new.state.held.forest) }
     ensures tables { table_sweep.new.tables ≡ table_sweep.old.tables }
     ensures advances { Advances (rig_state rig.old) (rig_state rig.new) facts.old facts.new }
     ensures cause { IsErrOf result RigFail.Failed → Rose (rig_state rig.old).failures (rig_state rig.new).failures }
@@ -157,6 +161,10 @@ fn test_tables(
     ensures cause { IsErrOf result RigFail.Failed → Rose (rig_state rig.old).failures (rig_state rig.new).failures }
 {
     let Ok(()) = table_sweep.state.search.begin_tables() else {
+        return Err(RigFail::Memory);
+    };
+    let state = &mut table_sweep.state;
+    let Ok(()) = begin_held(&mut state.held, known.alloc(), facts, &state.search.forest) else {
         return Err(RigFail::Memory);
     };
     'nodes: for node in 0..facts.shape().nodes() {

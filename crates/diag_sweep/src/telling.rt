@@ -12,7 +12,7 @@ ghost use Rattle.diag_sweep.specs.Views.{CanTell};
 use crate::defect_marks::DefectMarks;
 use crate::footing::{foot_at, pins_over};
 use crate::hearing::hear;
-use crate::held::{HeldForest, hold};
+use crate::held::{HeldForest, begin_held, hold};
 use crate::losing::begin;
 use crate::seen::see_all;
 use crate::sweep_state::SweepState;
@@ -88,6 +88,7 @@ fn next_view(
     known: &Known,
     bad: &DefectMarks,
 ) -> Result<Option<View>, AllocError>
+    requires { KeepsForest facts.now held.old.forest }
     ensures { OnOk result (KeepsForest facts.now held.new.forest) }
 {
     let alloc = known.alloc();
@@ -156,8 +157,10 @@ fn tell_turn(
 ) -> Result<bool, RigFail>
     requires attached { shape_of (rig_state rig.old) ≡ Some facts.old.shape }
     requires hand { IsHand field.now (in_hand facts.old known.now bad.old state.old.budget (rig_state rig.old).loads) }
+    requires forest { KeepsForest facts.old state.old.held.forest }
     ensures goes { Goes (rig_state rig.new) field.now [] (in_hand facts.old known.now bad.old state.old.budget (rig_state rig.old).loads)
         (in_hand facts.new known.now bad.new state.new.budget (rig_state rig.new).loads) }
+    ensures forest { OnOk result (KeepsForest facts.new state.new.held.forest) }
     ensures advances { Advances (rig_state rig.old) (rig_state rig.new) facts.old facts.new }
     ensures cause { IsErrOf result RigFail.Failed → Rose (rig_state rig.old).failures (rig_state rig.new).failures }
 {
@@ -201,7 +204,7 @@ fn tell_turn(
 }
 
 /// Takes looks for what the choice is asked for, until none is wanted, or it can't be paid.
-#[tactic(auto, using(crate::proofs::Going::gone_none))]
+#[tactic(auto, using(crate::proofs::Holding::held_none))]
 pub(crate) fn tell_all(
     rig: &mut Box<dyn Rig>,
     facts: &mut Facts,
@@ -219,6 +222,9 @@ pub(crate) fn tell_all(
 {
     let aim = state.aim;
     let Ok(()) = begin(&mut state.chooser, aim, facts, known, bad) else {
+        return Err(RigFail::Memory);
+    };
+    let Ok(()) = begin_held(&mut state.held, known.alloc(), facts, &state.search.forest) else {
         return Err(RigFail::Memory);
     };
     'looks: for _look in 0..MOST_LOOKS {

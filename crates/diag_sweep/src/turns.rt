@@ -1,9 +1,10 @@
 //! One load after the other.
-ghost use Rattle.std.specs.Prelude.{◌≡◌, [], Some, IsErrOf, length};
+ghost use Rattle.std.specs.Prelude.{◌≡◌, [], Some, IsErrOf, OnOk, length};
 ghost use Rattle.base_io.specs.Counts.{Rose};
 ghost use Rattle.machine_shape.specs.Shape.{crosses_of};
 ghost use Rattle.rig.specs.Rig.{shape_of};
 ghost use Rattle.diag_evidence.specs.Kept.{Advances};
+ghost use Rattle.diag_evidence.specs.Forests.{KeepsForest};
 ghost use Rattle.diag_sweep.specs.Marks.{AreMarksFor};
 ghost use Rattle.diag_sweep.specs.Stages.{Goes, GoesYet, IsHand, Settles, in_hand};
 
@@ -11,6 +12,7 @@ use crate::asking::knows;
 use crate::budget::LoadBudget;
 use crate::defect_marks::DefectMarks;
 use crate::hanging::{hang_load, pin_load};
+use crate::held::begin_held;
 use crate::informing::{note_hangs, note_known};
 use crate::leading::lead_all;
 use crate::learn::{learn_hangs, learn_pins};
@@ -128,8 +130,10 @@ fn hang_test(
 ) -> Result<bool, RigFail>
     requires attached { shape_of (rig_state rig.old) ≡ Some facts.old.shape }
     requires hand { IsHand field.now (in_hand facts.old known.old bad.old state.old.budget (rig_state rig.old).loads) }
+    requires forest { KeepsForest facts.old state.old.held.forest }
     ensures goes { GoesYet (rig_state rig.new) field.now [] (in_hand facts.old known.old bad.old state.old.budget (rig_state rig.old).loads)
         (in_hand facts.new known.new bad.new state.new.budget (rig_state rig.new).loads) }
+    ensures forest { OnOk result (KeepsForest facts.new state.new.held.forest) }
     ensures advances { Advances (rig_state rig.old) (rig_state rig.new) facts.old facts.new }
     ensures cause { IsErrOf result RigFail.Failed → Rose (rig_state rig.old).failures (rig_state rig.new).failures }
 {
@@ -164,8 +168,10 @@ fn hang_turn(
 ) -> Result<bool, RigFail>
     requires attached { shape_of (rig_state rig.old) ≡ Some facts.old.shape }
     requires hand { IsHand field.now (in_hand facts.old known.old bad.old state.old.budget (rig_state rig.old).loads) }
+    requires forest { KeepsForest facts.old state.old.held.forest }
     ensures goes { Goes (rig_state rig.new) field.now [] (in_hand facts.old known.old bad.old state.old.budget (rig_state rig.old).loads)
         (in_hand facts.new known.new bad.new state.new.budget (rig_state rig.new).loads) }
+    ensures forest { OnOk result (KeepsForest facts.new state.new.held.forest) }
     ensures advances { Advances (rig_state rig.old) (rig_state rig.new) facts.old facts.new }
     ensures cause { IsErrOf result RigFail.Failed → Rose (rig_state rig.old).failures (rig_state rig.new).failures }
 {
@@ -175,7 +181,7 @@ fn hang_turn(
 }
 
 // Tests the wires that are to be hung until none is found, or it can't be paid.
-#[tactic(auto, using(crate::proofs::Going::gone_none))]
+#[tactic(auto, using(crate::proofs::Holding::held_none))]
 fn hang_wanted(
     rig: &mut Box<dyn Rig>,
     facts: &mut Facts,
@@ -191,6 +197,9 @@ fn hang_wanted(
     ensures advances { Advances (rig_state rig.old) (rig_state rig.new) facts.old facts.new }
     ensures cause { IsErrOf result RigFail.Failed → Rose (rig_state rig.old).failures (rig_state rig.new).failures }
 {
+    let Ok(()) = begin_held(&mut state.held, known.alloc(), facts, &state.search.forest) else {
+        return Err(RigFail::Memory);
+    };
     'loads: for _load in 0..MOST_LOADS {
         if !hang_turn(rig, facts, known, bad, field, state)? {
             return Ok(());

@@ -1,5 +1,5 @@
 use Rattle.diag_sweep.proofs.Vocabulary.{refl, all_still}
-use Rattle.diag_sweep.proofs.{Going.goes_itself, Going.goes_whole, Going.set_of, HungOn.hang_goes, HungOn.is_step, HungOn.step_has}
+use Rattle.diag_sweep.proofs.{Going.goes_itself, Going.goes_whole, Going.set_of, HungOn.hang_goes, HungOn.is_step, HungOn.step_has, Holding.held_tested}
 use Rattle.diag_sweep.proofs.Viewing.{told_unclear, told_unfit}
 use Rattle.diag_sweep.proofs.telling.tell_turn.Goals as goal
 
@@ -26,3 +26,6 @@ returns-in_err-screen_wires-clause-goes g c =
     (told_unclear c.args.field.now _ _ _ _ _ _ _ c.screen_wires.result of test.marks_too test.stay_too test.marked test.unmarked_too)
     (λ f e. test.unfit_each f e (is_step c.args.known.now.steps) (λ w on. step_has c.args.known.now.steps w (can.known w on)))
     test.unclear_each)
+
+pub returns-clause-forest : goal.returns-clause-forest
+returns-clause-forest g c = held_tested c.was_heard.result c.screen_wires.ensures.advances.more c.in-Ok.ensures
