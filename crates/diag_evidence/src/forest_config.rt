@@ -1,5 +1,5 @@
 //! Configurations that close a forest. They stay from look to look, and so does what is closed of the forest: a look costs what changes.
-ghost use Rattle.std.specs.Prelude.{◌≡◌, ℕ, ◌<◌, ◌≤◌, true, length, All, IsTrue, OnOk};
+ghost use Rattle.std.specs.Prelude.{◌≡◌, ℕ, ◌<◌, true, All, IsTrue, OnOk};
 ghost use Rattle.machine_shape.specs.Shape.{crosses_of};
 ghost use Rattle.machine_config.specs.Vocabulary.{AreOff, among, is_closed};
 ghost use Rattle.diag_tests.specs.Routes.{cross_numbers};
@@ -7,39 +7,9 @@ ghost use Rattle.diag_evidence.specs.Hangs.{ClosesForest};
 
 use crate::Forest;
 use diag_tests::close_all;
-use machine_config::Config;
+use machine_config::{Config, are_same, count_alike};
 use machine_shape::Cross;
 use std::alloc::AllocError;
-
-// So many crosspoints are compared at once, which is much quicker than one by one.
-const PART: usize = 256;
-
-// How many crosspoints of these two lists come first in both, by whole parts.
-fn parts_alike(one: &[Cross], other: &[Cross], most: usize) -> usize
-    requires one { most ≤ length one.now }
-    requires other { most ≤ length other.now }
-{
-    let parts = most / PART;
-    'parts: for part in 0..parts {
-        let from = part * PART;
-        let end = from + PART;
-        if &one[from..end] != &other[from..end] {
-            return from;
-        }
-    }
-    parts * PART
-}
-
-// How many crosspoints come first in both.
-fn count_alike(one: &[Cross], other: &[Cross]) -> usize {
-    let most = one.len().min(other.len());
-    'places: for k in parts_alike(one, other, most)..most {
-        if one[k].0 != other[k].0 {
-            return k;
-        }
-    }
-    most
-}
 
 // Opens what was closed last, up to so many.
 fn open_last(config: &mut Config, count: usize)
@@ -66,13 +36,6 @@ fn close_from(config: &mut Config, crosses: &[Cross], from: usize) -> Result<(),
         config.close_cross(crosses[k])?;
     }
     Ok(())
-}
-
-// Whether two lists are one.
-fn are_same(one: &[Cross], other: &[Cross]) -> bool
-    ensures { IsTrue result → one.now ≡ other.now }
-{
-    one == other
 }
 
 // Whether just these crosspoints are closed, nothing is on, and a cycle has one tick.
