@@ -1,5 +1,5 @@
 use Rattle.std.proofs.lemmas.Result.{err_from_is_err_and}
-use Rattle.diag_evidence.proofs.Vocabulary.{◌≡◌, Some, refl, subst, sym, Kept, HasLearnt}
+use Rattle.diag_evidence.proofs.Vocabulary.{◌≡◌, ◌∙◌, Bool, List, Some, true, has_number, refl, subst, sym, Kept, HasLearnt}
 use Rattle.diag_evidence.specs.Hangs.{UnclearIf, UnfitIf}
 use Rattle.diag_evidence.proofs.Keeping.{advances_itself}
 use Rattle.diag_evidence.proofs.Advancing.{advances_loads, failed_cause}
@@ -107,3 +107,44 @@ returns-then-not-branch-clause-unfit_each g c = λ f e known all before. subst (
 
 pub returns-then-not-branch-clause-unclear_each : goal.returns-then-not-branch-clause-unclear_each
 returns-then-not-branch-clause-unclear_each g c = λ f e before. subst (λ (k : Kept). UnclearIf (Some f) k c.args.unclear.now) (sym c.view.ensures.same) before
+
+pub returns-in_err-learn_hung-clause-advances : goal.returns-in_err-learn_hung-clause-advances
+returns-in_err-learn_hung-clause-advances g c = advances_loads (c.in_err-learn_hung.ensures.refused ∙ c.view.ensures.same) c.view.ensures.loads c.view.ensures.few
+
+pub returns-in_err-learn_hung-clause-unfit_each : goal.returns-in_err-learn_hung-clause-unfit_each
+returns-in_err-learn_hung-clause-unfit_each g c = λ f e known all before.
+    subst (λ (k : Kept). UnfitIf (Some f) k known c.learn_hung.new.unfit) (sym (c.in_err-learn_hung.ensures.refused ∙ c.view.ensures.same)) (subst (λ (m : List Bool). UnfitIf (Some f) c.args.self.now known m) (sym c.in_err-learn_hung.ensures.unmarked) before)
+
+pub returns-in_err-learn_hung-clause-unclear_each : goal.returns-in_err-learn_hung-clause-unclear_each
+returns-in_err-learn_hung-clause-unclear_each g c = λ f e before.
+    subst (λ (k : Kept). UnclearIf (Some f) k c.learn_hung.new.unclear) (sym (c.in_err-learn_hung.ensures.refused ∙ c.view.ensures.same)) (subst (λ (m : List Bool). UnclearIf (Some f) c.args.self.now m) (sym c.in_err-learn_hung.ensures.unmarked_too) before)
+
+pub returns-in_err-learn_hung-clause-stay : goal.returns-in_err-learn_hung-clause-stay
+returns-in_err-learn_hung-clause-stay g c = λ w on. subst (λ (m : List Bool). has_number m w ≡ true) (sym c.in_err-learn_hung.ensures.unmarked) on
+
+pub returns-in_err-learn_hung-clause-stay_too : goal.returns-in_err-learn_hung-clause-stay_too
+returns-in_err-learn_hung-clause-stay_too g c = λ w on. subst (λ (m : List Bool). has_number m w ≡ true) (sym c.in_err-learn_hung.ensures.unmarked_too) on
+
+pub returns-in_err-plan-clause-stay : goal.returns-in_err-plan-clause-stay
+returns-in_err-plan-clause-stay g c = λ w on. on
+
+pub returns-in_err-plan-clause-stay_too : goal.returns-in_err-plan-clause-stay_too
+returns-in_err-plan-clause-stay_too g c = λ w on. on
+
+pub returns-in_err-views-clause-stay : goal.returns-in_err-views-clause-stay
+returns-in_err-views-clause-stay g c = λ w on. on
+
+pub returns-in_err-views-clause-stay_too : goal.returns-in_err-views-clause-stay_too
+returns-in_err-views-clause-stay_too g c = λ w on. on
+
+pub returns-in_err-view-clause-stay : goal.returns-in_err-view-clause-stay
+returns-in_err-view-clause-stay g c = λ w on. on
+
+pub returns-in_err-view-clause-stay_too : goal.returns-in_err-view-clause-stay_too
+returns-in_err-view-clause-stay_too g c = λ w on. on
+
+pub returns-then-not-branch-clause-stay : goal.returns-then-not-branch-clause-stay
+returns-then-not-branch-clause-stay g c = λ w on. on
+
+pub returns-then-not-branch-clause-stay_too : goal.returns-then-not-branch-clause-stay_too
+returns-then-not-branch-clause-stay_too g c = λ w on. on
