@@ -1,8 +1,9 @@
 -- Products of literals and sums of them.
-use Rattle.std.proofs.Common.{◌≡◌, ℕ, ◌+◌, ◌<◌, ◌&&◌, ◌||◌, Bool, true, false, List, [], ◌∷◌, length, take, drop, get_or, refl, sym, ap, ◌∙◌, not}
+use Rattle.std.proofs.Common.{◌≡◌, ℕ, ◌+◌, ◌<◌, ◌&&◌, ◌||◌, Bool, true, false, List, [], ◌∷◌, ◌++◌, length, take, drop, get_or, refl, sym, ap, ◌∙◌, not}
 use Rattle.std.specs.List.{list_all, list_any, Sorted.IsPermutation}
-use Rattle.design_equal.proofs.Vocabulary.{take-append-drop, literal_in, holds}
-use Rattle.std.proofs.lemmas.List.{Folds.list_all-append, Folds.list_all_more, Sorted.list_any-IsPermutation}
+use Rattle.design_equal.proofs.Vocabulary.{take-append-drop, literal_in, holds, some_holds}
+use Rattle.design_equal.specs.{declared.expand.Pending.Pending, Products.pending_holds}
+use Rattle.std.proofs.lemmas.List.{Folds.list_all-append, Folds.list_all_more, Folds.list_any-append, Sorted.list_any-IsPermutation}
 
 all_is : {X : Type 0} (p : X → Bool) (xs : List X) → list_all p xs ≡ not (list_any (λ x. not (p x)) xs)
 all_is p [] = refl
@@ -27,3 +28,37 @@ never bits xs k d lk e =
 pub either_not : (a b : Bool) → (not a || not b) ≡ not (a && b)
 either_not true b = refl
 either_not false b = refl
+
+-- the last of what waits, with the last literal that is to be looked at, and with none
+or_last : (a b c : Bool) → (a || (b || (c || false))) ≡ ((a || b) || c)
+or_last true b c = refl
+or_last false true c = refl
+or_last false false true = refl
+or_last false false false = refl
+
+waits_last : (bits : ℕ → Bool) (sum : List (List ℕ)) (waiting rest : List Pending) (p : Pending) → waiting ≡ rest ++ p ∷ []
+    → (some_holds bits sum || list_any (pending_holds bits) waiting) ≡ ((some_holds bits sum || list_any (pending_holds bits) rest) || pending_holds bits p)
+waits_last bits sum waiting rest p is =
+    ap (λ b. some_holds bits sum || b) (ap (list_any (pending_holds bits)) is ∙ list_any-append (pending_holds bits) rest (p ∷ []))
+    ∙ or_last (some_holds bits sum) (list_any (pending_holds bits) rest) (pending_holds bits p)
+
+and_last : (a b : Bool) → (a && (b && true)) ≡ (a && b)
+and_last true true = refl
+and_last true false = refl
+and_last false b = refl
+
+pub opened : (bits : ℕ → Bool) (sum : List (List ℕ)) (waiting rest : List Pending) (p : Pending) (todo : List ℕ) (x : ℕ) → waiting ≡ rest ++ p ∷ [] → p.todo.items ≡ todo ++ x ∷ []
+    → (some_holds bits sum || list_any (pending_holds bits) waiting)
+    ≡ ((some_holds bits sum || list_any (pending_holds bits) rest) || (holds bits p.done.items && (holds bits todo && literal_in bits x)))
+opened bits sum waiting rest p todo x is last = waits_last bits sum waiting rest p is
+    ∙ ap (λ b. (some_holds bits sum || list_any (pending_holds bits) rest) || (holds bits p.done.items && b))
+    (ap (holds bits) last ∙ list_all-append (literal_in bits) todo (x ∷ []) ∙ and_last (holds bits todo) (literal_in bits x))
+
+and_true : (a : Bool) → (a && true) ≡ a
+and_true true = refl
+and_true false = refl
+
+pub finished : (bits : ℕ → Bool) (sum : List (List ℕ)) (waiting rest : List Pending) (p : Pending) → waiting ≡ rest ++ p ∷ [] → p.todo.items ≡ []
+    → (some_holds bits sum || list_any (pending_holds bits) waiting) ≡ ((some_holds bits sum || list_any (pending_holds bits) rest) || holds bits p.done.items)
+finished bits sum waiting rest p is none = waits_last bits sum waiting rest p is
+    ∙ ap (λ b. (some_holds bits sum || list_any (pending_holds bits) rest) || b) (ap (λ xs. holds bits p.done.items && holds bits xs) none ∙ and_true (holds bits p.done.items))

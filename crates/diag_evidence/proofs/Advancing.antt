@@ -1,12 +1,17 @@
 -- What is kept after a test is true.
-use Rattle.std.proofs.Common.{◌≡◌, ◌≢◌, ◌≤◌, ℕ, Bool, true, false, Some, Option, List, refl, sym, ◌∙◌, subst, arith, ◌==◌}
+use Rattle.std.proofs.Common.{◌≡◌, ◌≢◌, ◌≤◌, ◌+◌, ℕ, Bool, true, false, Some, Option, List, Result, Ok, Err, IsErrOf, refl, sym, ◌∙◌, subst, arith, ◌==◌}
 use mathlib.Core.Bool.{beq}
 use Rattle.diag_evidence.proofs.Vocabulary.{nat_tests, pin_wire, Setting, conducting, swing_clears, closed_cross_shows, cell_shows}
 use Rattle.diag_evidence.proofs.Vocabulary.{register_shows, Walk, RigState, Explains, Narrows, Tells}
 use Rattle.machine_meaning.specs.Vocabulary.{Pins, Faults, stuck_cross, Net, Joined, here, then, crossed, IsClear, net_of}
 use Rattle.machine_config.specs.Vocabulary.{Configuration, is_closed, with_open, with_setting, with_cell, with_init, among, LeadsTo, ends, goes}
-use Rattle.diag_evidence.specs.Vocabulary.{Kept, HoldsFor, Gain, Gains, Advances, FewCycles, one_cross, one_cell, one_register, these_wires, Reads, ReadsTwice, IsReady}
-use Rattle.diag_evidence.proofs.KeptLemmas.{GainHoldsFor, more_by_gain, holds_by_gain, cross_holds, cell_holds, register_holds, wires_hold}
+use Rattle.base_io.specs.Counts.{Rose}
+use Rattle.rig.specs.declared.rig.RigFail.{RigFail}
+use Rattle.rig.specs.declared.rig.RigFail.TheVariants as work
+use Rattle.diag_evidence.specs.Readings.{LoadsUpTo}
+use Rattle.diag_evidence.specs.Vocabulary.{Kept, KeepsTrial, HoldsFor, Gain, Gains, Advances, FewCycles, one_cross, one_cell, one_register, these_wires, Reads, ReadsTwice, IsReady}
+use Rattle.diag_evidence.proofs.Keeping.{advances_itself, trial_itself}
+use Rattle.diag_evidence.proofs.KeptLemmas.{GainHoldsFor, more_itself, more_by_gain, holds_by_gain, cross_holds, cell_holds, register_holds, wires_hold}
 use Rattle.diag_evidence.proofs.Shown.{differ, differ_turned}
 
 pub different_bits : (a b : Bool) → beq a b ≡ false → a ≢ b
@@ -28,6 +33,63 @@ advances_by {k = k} {l = l} gain same later counted few gains narrows tells each
   tells = tells;
   explained = λ f e h. holds_by_gain gain k l f gains h (each f e h);
 }
+
+-- no load, and nothing is kept
+pub advances_idle : {s : RigState} {k l : Kept} → l ≡ k → Advances s s k l
+advances_idle {s = s} {k = k} same = subst (Advances s s k) (sym same) (advances_itself s k)
+
+-- loads that keep nothing, alone and after others
+pub advances_loads : {T : Type 0} {most : ℕ} {result : Result T RigFail} {old new : RigState} {k l : Kept} → l ≡ k → LoadsUpTo most result old new → FewCycles old new → Advances old new k l
+advances_loads {old = old} {new = new} {k = k} same loads few = subst (Advances old new k) (sym same) (record {
+  machine = loads.machine;
+  later = loads.later;
+  counted = loads.counted;
+  few = few;
+  more = more_itself k;
+  narrows = loads.narrows;
+  tells = loads.tells;
+  explained = λ f e h. h;
+})
+
+pub loads_then : {T U : Type 0} {m n : ℕ} {first : Result T RigFail} {second : Result U RigFail} {a b c : RigState} → LoadsUpTo m first a b → LoadsUpTo n second b c → LoadsUpTo (m + n) second a c
+loads_then p q = record {
+  machine = q.machine ∙ p.machine;
+  later = omega (arith, p.later, q.later);
+  counted = omega (arith, p.counted, q.counted);
+  loads = omega (arith, p.loads, q.loads);
+  cause = λ is. let rose = q.cause is in omega (arith, p.later, rose);
+  narrows = λ f e. p.narrows f (q.narrows f e);
+  tells = λ t. q.tells (p.tells t);
+}
+
+-- .. up to a larger number, where the last failed and where all is well
+pub loads_failed : {T U : Type 0} {m n : ℕ} {e : RigFail} {a b : RigState} → m ≤ n → LoadsUpTo {T = T} m (Err e) a b → LoadsUpTo {T = U} n (Err e) a b
+loads_failed {e = e} few p = record {
+  machine = p.machine;
+  later = p.later;
+  counted = p.counted;
+  loads = omega (arith, few, p.loads);
+  cause = λ is. let same : e ≡ work.Failed = cc in p.cause (λ i. Err (same i));
+  narrows = p.narrows;
+  tells = p.tells;
+}
+
+pub loads_well : {T U : Type 0} {m n : ℕ} {r : Result T RigFail} {x : U} {a b : RigState} → m ≤ n → LoadsUpTo m r a b → LoadsUpTo {T = U} n (Ok x) a b
+loads_well few p = record {
+  machine = p.machine;
+  later = p.later;
+  counted = p.counted;
+  loads = omega (arith, few, p.loads);
+  cause = λ is. absurd (let no : ⊥ = cc in no);
+  narrows = p.narrows;
+  tells = p.tells;
+}
+
+pub failed_cause : {T U : Type 0} {m : ℕ} {e : RigFail} {a b : RigState} → LoadsUpTo {T = T} m (Err e) a b → IsErrOf {T = U} {E = RigFail} (Err e) work.Failed → Rose a.failures b.failures
+failed_cause {e = e} p is = let same : e ≡ work.Failed = cc in p.cause (λ i. Err (same i))
+
+pub trial_same : {k l : Kept} → l ≡ k → KeepsTrial k l
+trial_same {k = k} same = subst (KeepsTrial k) (sym same) (trial_itself k)
 
 pub cross_gain : {told : Option Faults} {drive : Pins} {pin : ℕ} {a b : Bool} (k : Kept) (g : Configuration) (x : ℕ) → is_closed g x ≡ true → (p : Reads told g drive pin a) (q : Reads told (with_open g x) drive pin b) → a ≢ b →
     (f : Faults) → told ≡ Some f → GainHoldsFor k (one_cross x) f

@@ -1,6 +1,9 @@
 -- What explains the log, taken as told faults.
-use Rattle.std.proofs.Common.{◌≡◌, ℕ, Bool, true, false, Some, List, IsTrue, IfOk, OnOk, Result, Ok, Err}
-use Rattle.diag_growth.proofs.Vocabulary.{Faults, RigState, Explains, Kept, HoldsFor, Advances, keeps_cross, of_told, HasWire, IsFaulty}
+use Rattle.std.proofs.Common.{◌≡◌, ◌∙◌, ℕ, Bool, true, false, Some, List, IsTrue, IfOk, OnOk, Result, Ok, Err, IsErrOf, ap, sym, arith, option_map}
+use Rattle.base_io.specs.Counts.{Rose}
+use Rattle.rig.specs.Rig.{Machine, shape_of}
+use Rattle.diag_evidence.proofs.Keeping.{advances_still}
+use Rattle.diag_growth.proofs.Vocabulary.{Faults, RigState, Explains, IsMore, Kept, HoldsFor, Advances, advances_then, keeps_cross, of_told, HasWire, IsFaulty}
 use Rattle.diag_growth.proofs.Vocabulary.{IsLinkTo, IsLost, IsSecondMark, Support, VerifiedWire, lost_faulty, second_mark_by}
 
 -- what tests keep is true of what explains the log after them, if what was kept is
@@ -17,3 +20,18 @@ pub faulty_each : (X : Faults → Type 0) (k : Kept) (x : ℕ) {ss : List Verifi
     IfOk r (λ yes. (f : Faults) → X f → yes ≡ false → IsFaulty (Some f) k)
 faulty_each X k x (Ok answer) new lost = λ f e is_no. lost_faulty new (lost f e is_no)
 faulty_each X k x (Err e) new lost = tt
+
+-- a trial that begins after tests makes no load
+pub has_begun : {a b : RigState} {k l m : Kept} → Advances a b k l → IsMore l m → ((f : Faults) → HoldsFor l f → HoldsFor m f) → Advances a b k m
+has_begun {b = b} {l = l} {m = m} advances more explained = advances_then advances (advances_still b l m more explained)
+
+-- through tests the shape stays attached, and a count that rose after them rose
+pub attached_later : {a b : RigState} {k l : Kept} → Advances a b k l → shape_of a ≡ Some k.shape → shape_of b ≡ Some l.shape
+attached_later advances same = ap (λ (m : Machine). option_map (λ a. a.shape) m.attached) advances.machine ∙ same ∙ ap Some (sym advances.more.shape)
+
+pub rose_then : {a b : RigState} {k l : Kept} {n : ℕ} → Advances a b k l → Rose b.failures n → Rose a.failures n
+rose_then advances rose = let later = advances.later in omega (arith, later, rose)
+
+-- a refusal is the same of results of another type
+pub still_err : {T U E : Type 0} {e f : E} → IsErrOf {T = T} {E = E} (Err e) f → IsErrOf {T = U} {E = E} (Err e) f
+still_err {e = e} {f = f} is = let same : e ≡ f = cc in λ i. Err (same i)

@@ -2,7 +2,7 @@
 use Rattle.std.proofs.Common.{◌≡◌, ◌≤◌, Bool, true, false, ℕ, Option, None, Some, IfSome, List, [], ◌∷◌, ◌++◌, inr, refl, sym, ap, ◌∙◌, subst, option_map, IsSome, is_some, if◌then◌else◌}
 use Rattle.rig_doubled.proofs.Vocabulary.{false≢true, AllByRecursion, option_map_or, flat_map_more, pins_of, Faults, Configuration}
 use Rattle.rig_doubled.proofs.Vocabulary.{standing_runs, runs_more, Pair, Kept, Repeated, IsRepeating, ended_in, repeat_state}
-use Rattle.rig.specs.Rig.{Asked, RigState, Session, Past, IsRunOf, Explains, Narrows, standing}
+use Rattle.rig.specs.Rig.{Asked, Machine, Refused, RigState, Session, Past, IsRunOf, Explains, Narrows, standing}
 use Rattle.rig_doubled.specs.Twins.{Twins, IsOfMachine, ArePaired, IsTwinned, session_with, twin_state}
 
 -- one more that has ended
@@ -109,3 +109,13 @@ pub both_logged : (pair : Option Pair) (past ended : List Past) (session : Optio
     → ended ≡ past ++ standing (session_with (option_map (λ (p : Pair). p.spare) pair) session)
 both_logged None past ended session is = is
 both_logged (Some p) past ended session is = is ∙ ap (λ xs. past ++ xs) (sym (pair_standing p.spare session))
+
+pub both_ended : (flag : Bool) (pair : Option Pair) (past ended : List Past) (session : Option Session) → flag ≡ is_some pair → ended ≡ past ++ standing (if flag then session else None)
+    → ended ≡ past ++ standing (session_with (option_map (λ (p : Pair). p.spare) pair) session)
+both_ended flag pair past ended session stood is = both_logged pair past ended session (is ∙ ap (λ b. past ++ standing (if b then session else None)) stood)
+
+-- what both mean as a machine, by the one that is told
+pub told_machine : (asked : List Asked) (attached : Option Asked) (refused : Refused) {m n : Machine} → m ≡ n → ◌≡◌ {A = Machine}
+    (record { asked = asked; attached = attached; faults = m.faults; texts = λ _. None; refused = refused })
+    (record { asked = asked; attached = attached; faults = n.faults; texts = λ _. None; refused = refused })
+told_machine asked attached refused e = λ i. record { asked = asked; attached = attached; faults = (e i).faults; texts = λ _. None; refused = refused }

@@ -1,5 +1,6 @@
-use Rattle.std.proofs.Common.{◌<◌, ◌∙◌, ℕ, sym, ap, subst}
-use Rattle.diag_growth.proofs.Vocabulary.{IfOk-weaker, Shape, pins_of, AreWays, known_later, ways_later, Kept, begun_apart}
+use Rattle.std.proofs.Common.{◌<◌, ◌∙◌, ℕ, refl, sym, ap, subst}
+use Rattle.diag_growth.proofs.Explained.{attached_later, has_begun, rose_then}
+use Rattle.diag_growth.proofs.Vocabulary.{advances_itself, advances_then, IfOk-weaker, Shape, pins_of, AreWays, known_later, ways_later, Kept, begun_apart}
 use Rattle.diag_growth.proofs.Parting.{end_on, parted_both}
 use Rattle.diag_growth.proofs.parts.is_good_pin.Goals as goal
 
@@ -29,3 +30,33 @@ returns-clause-good g c = IfOk-weaker c.part.result _ _ (λ yes apart. λ is_yes
 
 pub returns-clause-set : goal.returns-clause-set
 returns-clause-set g c = λ u. c.part.ensures.trial.apart u ∙ begun_apart _ c.begin.ensures.begun u ∙ c.test_stuck.ensures.trial.apart u
+
+pub part-requires-clause-attached : goal.part-requires-clause-attached
+part-requires-clause-attached g c = attached_later (has_begun c.test_stuck.ensures.advances c.begin.ensures.more c.begin.ensures.explained) c.requires.attached
+
+pub part-requires-clause-tried : goal.part-requires-clause-tried
+part-requires-clause-tried g c = ap (λ (k : Kept). k.trial) c.begin.ensures.begun
+
+pub returns-in_default-clause-advances : goal.returns-in_default-clause-advances
+returns-in_default-clause-advances g c = advances_itself _ c.args.facts.now
+
+pub returns-in_default-clause-set : goal.returns-in_default-clause-set
+returns-in_default-clause-set g c = λ w. refl
+
+pub returns-in_err-kept-clause-set : goal.returns-in_err-kept-clause-set
+returns-in_err-kept-clause-set g c = c.test_stuck.ensures.trial.apart
+
+pub returns-in_err-kept-clause-advances : goal.returns-in_err-kept-clause-advances
+returns-in_err-kept-clause-advances g c = c.test_stuck.ensures.advances
+
+pub returns-then-not-kept-clause-set : goal.returns-then-not-kept-clause-set
+returns-then-not-kept-clause-set g c = c.test_stuck.ensures.trial.apart
+
+pub returns-then-not-kept-clause-advances : goal.returns-then-not-kept-clause-advances
+returns-then-not-kept-clause-advances g c = c.test_stuck.ensures.advances
+
+pub returns-clause-advances : goal.returns-clause-advances
+returns-clause-advances g c = advances_then (has_begun c.test_stuck.ensures.advances c.begin.ensures.more c.begin.ensures.explained) c.part.ensures.advances
+
+pub returns-clause-cause : goal.returns-clause-cause
+returns-clause-cause g c = λ is. rose_then c.test_stuck.ensures.advances (c.part.ensures.cause is)

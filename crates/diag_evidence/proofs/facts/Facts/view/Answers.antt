@@ -1,7 +1,9 @@
-use Rattle.diag_evidence.proofs.Vocabulary.{◌≡◌, ◌<◌, ◌∙◌, All, List, sym, subst, map, false≢true, All-map, crosses_of}
+use Rattle.diag_evidence.proofs.Vocabulary.{◌≡◌, ◌<◌, ◌∙◌, ap, arith, pins_of, Kept, All, List, sym, subst, map, false≢true, All-map, crosses_of}
 use Rattle.diag_evidence.specs.Hangs.{Foot, IsFoot, over_of, turned, overs, others, all_feet}
 use Rattle.diag_evidence.proofs.Hanging.{feet_below, all_are_feet, overs_feet}
 use Rattle.diag_evidence.proofs.Tried.{look_over, look_over_logged, three_looks}
+use Rattle.std.proofs.lemmas.Result.{err_from_is_err_and}
+use Rattle.diag_evidence.proofs.Advancing.{loads_failed, loads_then, loads_well}
 use Rattle.diag_evidence.proofs.facts.Facts.view.Goals as goal
 
 pub look-requires-clause-feet : goal.look-requires-clause-feet
@@ -53,3 +55,62 @@ returns-clause-logged g c = record {
       (look_over_logged c.args.forest.now (c.deref-2.ensures.value ∙ c.requires.plan.others_are) c.in_ok-look-2.ensures.logged)
       (look_over_logged c.args.forest.now (c.deref-3.ensures.value ∙ c.requires.plan.overs_are) c.in_ok-look-3.ensures.logged);
 }
+
+pub returns-in_err-look-clause-loads : goal.returns-in_err-look-clause-loads
+returns-in_err-look-clause-loads g c =
+    let p = err_from_is_err_and c.from_residual.result c.from_residual.ensures.1 in
+    rw (p.1, p.2) (loads_failed (omega arith) c.in_err-look.ensures.loads)
+
+pub returns-in_err-look-clause-few : goal.returns-in_err-look-clause-few
+returns-in_err-look-clause-few g c = c.look.ensures.few
+
+pub returns-in_err-look-clause-made : goal.returns-in_err-look-clause-made
+returns-in_err-look-clause-made g c = let most = c.look.ensures.made in omega (arith, most)
+
+pub returns-then-not-some_answers-clause-loads : goal.returns-then-not-some_answers-clause-loads
+returns-then-not-some_answers-clause-loads g c = loads_well (omega arith) c.look.ensures.loads
+
+pub returns-then-not-some_answers-clause-few : goal.returns-then-not-some_answers-clause-few
+returns-then-not-some_answers-clause-few g c = c.look.ensures.few
+
+pub returns-then-not-some_answers-clause-made : goal.returns-then-not-some_answers-clause-made
+returns-then-not-some_answers-clause-made g c = let most = c.look.ensures.made in omega (arith, most)
+
+pub returns-in_err-look-2-clause-loads : goal.returns-in_err-look-2-clause-loads
+returns-in_err-look-2-clause-loads g c =
+    let p = err_from_is_err_and c.from_residual-in_err-look-2.result c.from_residual-in_err-look-2.ensures.1 in
+    rw (p.1, p.2) (loads_failed (omega arith) (loads_then c.look.ensures.loads c.in_err-look-2.ensures.loads))
+
+pub returns-in_err-look-2-clause-few : goal.returns-in_err-look-2-clause-few
+returns-in_err-look-2-clause-few g c = λ n k h. c.look-2.ensures.few n k (c.look.ensures.few n k h)
+
+pub returns-in_err-look-2-clause-made : goal.returns-in_err-look-2-clause-made
+returns-in_err-look-2-clause-made g c =
+    let same : pins_of c.look.new.self.shape ≡ pins_of c.args.self.now.shape = ap (λ (k : Kept). pins_of k.shape) c.look.ensures.same in
+    let first = c.look.ensures.made in let second = c.look-2.ensures.made in omega (arith, first, second, same)
+
+pub returns-in_err-look-3-clause-loads : goal.returns-in_err-look-3-clause-loads
+returns-in_err-look-3-clause-loads g c =
+    let p = err_from_is_err_and c.from_residual-in_err-look-3.result c.from_residual-in_err-look-3.ensures.1 in
+    rw (p.1, p.2) (loads_failed (omega arith) (loads_then (loads_then c.look.ensures.loads c.look-2.ensures.loads) c.in_err-look-3.ensures.loads))
+
+pub returns-in_err-look-3-clause-few : goal.returns-in_err-look-3-clause-few
+returns-in_err-look-3-clause-few g c = λ n k h. c.look-3.ensures.few n k (c.look-2.ensures.few n k (c.look.ensures.few n k h))
+
+pub returns-in_err-look-3-clause-made : goal.returns-in_err-look-3-clause-made
+returns-in_err-look-3-clause-made g c =
+    let same : pins_of c.look.new.self.shape ≡ pins_of c.args.self.now.shape = ap (λ (k : Kept). pins_of k.shape) c.look.ensures.same in
+    let also : pins_of c.look-2.new.self.shape ≡ pins_of c.look.new.self.shape = ap (λ (k : Kept). pins_of k.shape) c.look-2.ensures.same in
+    let first = c.look.ensures.made in let second = c.look-2.ensures.made in let third = c.look-3.ensures.made in omega (arith, first, second, third, same, also)
+
+pub returns-clause-loads : goal.returns-clause-loads
+returns-clause-loads g c = loads_well (omega arith) (loads_then (loads_then c.look.ensures.loads c.look-2.ensures.loads) c.look-3.ensures.loads)
+
+pub returns-clause-few : goal.returns-clause-few
+returns-clause-few g c = λ n k h. c.look-3.ensures.few n k (c.look-2.ensures.few n k (c.look.ensures.few n k h))
+
+pub returns-clause-made : goal.returns-clause-made
+returns-clause-made g c =
+    let same : pins_of c.look.new.self.shape ≡ pins_of c.args.self.now.shape = ap (λ (k : Kept). pins_of k.shape) c.look.ensures.same in
+    let also : pins_of c.look-2.new.self.shape ≡ pins_of c.look.new.self.shape = ap (λ (k : Kept). pins_of k.shape) c.look-2.ensures.same in
+    let first = c.look.ensures.made in let second = c.look-2.ensures.made in let third = c.look-3.ensures.made in omega (arith, first, second, third, same, also)

@@ -1,4 +1,4 @@
-use Rattle.std.proofs.Common.{◌≡◌, ◌∙◌, ◌++◌, None, IsSome, if◌then◌else◌, sym, ap, subst}
+use Rattle.std.proofs.Common.{arith, refl, ◌≡◌, ◌∙◌, ◌++◌, None, IsSome, if◌then◌else◌, sym, ap, subst}
 use Rattle.rig_doubled.proofs.Vocabulary.{Narrows, RigState, standing, narrows_cycles, Repeated, ended_in}
 use Rattle.rig_doubled.proofs.{Endings.ended_explains, Endings.ended_more, Endings.ends_own, Repeating.repeats_still}
 use Rattle.rig_doubled.proofs.repeat_rig.RepeatRigRig.cycles.Goals as goal
@@ -27,3 +27,48 @@ invariant_of-self-in-Err-Failed g c =
     let more : ended ≡ past ++ standing inner.session = ap (ended_in state) c.and-ended.ensures ∙ ended_more state c.self.inside.past.items c.self.inside.inner in
     repeats_still c.self.inside.stands c.self.invariant stood c.go_on_by.ensures.kept
     (ended_explains c.self.inside.stands past ended inner (state c.go_on_by.new.inner) (ends_own c.self.inside.stands past ended inner.session stood more) c.self.invariant.explains narrows)
+
+pub returns-in-Ok-clause-machine : goal.returns-in-Ok-clause-machine
+returns-in-Ok-clause-machine g c = rw (← c.self.view_is) c.go_on_by.ensures.machine
+
+pub returns-in-Ok-clause-loads : goal.returns-in-Ok-clause-loads
+returns-in-Ok-clause-loads g c = rw (← c.self.view_is) refl
+
+pub returns-in-Ok-clause-later : goal.returns-in-Ok-clause-later
+returns-in-Ok-clause-later g c = rw (← c.self.view_is) (let later = c.go_on_by.ensures.later in omega (arith, later))
+
+pub returns-in-Ok-clause-times : goal.returns-in-Ok-clause-times
+returns-in-Ok-clause-times g c = rw (← c.self.view_is) refl
+
+pub returns-in-Ok-clause-inner_loads : goal.returns-in-Ok-clause-inner_loads
+returns-in-Ok-clause-inner_loads g c = rw (← c.self.view_is) c.go_on_by.ensures.loads
+
+pub returns-in-Err-Failed-clause-machine : goal.returns-in-Err-Failed-clause-machine
+returns-in-Err-Failed-clause-machine g c = rw (← c.self.view_is) c.go_on_by.ensures.machine
+
+pub returns-in-Err-Failed-clause-loads : goal.returns-in-Err-Failed-clause-loads
+returns-in-Err-Failed-clause-loads g c = rw (← c.self.view_is) refl
+
+pub returns-in-Err-Failed-clause-later : goal.returns-in-Err-Failed-clause-later
+returns-in-Err-Failed-clause-later g c = rw (← c.self.view_is) (let later = c.go_on_by.ensures.later in omega (arith, later))
+
+pub returns-in-Err-Failed-clause-times : goal.returns-in-Err-Failed-clause-times
+returns-in-Err-Failed-clause-times g c = rw (← c.self.view_is) refl
+
+pub returns-in-Err-Failed-clause-inner_loads : goal.returns-in-Err-Failed-clause-inner_loads
+returns-in-Err-Failed-clause-inner_loads g c = rw (← c.self.view_is) c.go_on_by.ensures.loads
+
+pub returns-in-Err-Memory-clause-machine : goal.returns-in-Err-Memory-clause-machine
+returns-in-Err-Memory-clause-machine g c = rw (← c.self.view_is) c.go_on_by.ensures.machine
+
+pub returns-in-Err-Memory-clause-loads : goal.returns-in-Err-Memory-clause-loads
+returns-in-Err-Memory-clause-loads g c = rw (← c.self.view_is) refl
+
+pub returns-in-Err-Memory-clause-later : goal.returns-in-Err-Memory-clause-later
+returns-in-Err-Memory-clause-later g c = rw (← c.self.view_is) (let later = c.go_on_by.ensures.later in omega (arith, later))
+
+pub returns-in-Err-Memory-clause-times : goal.returns-in-Err-Memory-clause-times
+returns-in-Err-Memory-clause-times g c = rw (← c.self.view_is) refl
+
+pub returns-in-Err-Memory-clause-inner_loads : goal.returns-in-Err-Memory-clause-inner_loads
+returns-in-Err-Memory-clause-inner_loads g c = rw (← c.self.view_is) c.go_on_by.ensures.loads

@@ -1,5 +1,5 @@
-use Rattle.rig_doubled.proofs.Vocabulary.{◌≡◌, ◌∙◌, ◌++◌, ap, RigState, standing, ended_in, Twins}
-use Rattle.rig_doubled.proofs.{Endings.ended_more, Twinning.session_pair, Twinning.twins_fail}
+use Rattle.rig_doubled.proofs.Vocabulary.{refl, ◌≡◌, ◌∙◌, ◌++◌, ap, RigState, standing, ended_in, Twins}
+use Rattle.rig_doubled.proofs.{Endings.ended_more, Endings.told_machine, Twinning.session_pair, Twinning.twins_fail}
 use Rattle.rig_doubled.proofs.twin_rig.TwinRigRig.cycles.Goals as goal
 
 pub invariant_of-self-in-Err-Failed : goal.invariant_of-self-in-Err-Failed
@@ -12,3 +12,30 @@ invariant_of-self-in-Err-Failed g c =
     ap (ended_in state) c.and-ended.ensures ∙ ended_more state c.self.inside.past.items c.self.inside.first in
     twins_fail c.self.invariant c.cycles_both.ensures.first c.cycles_both.ensures.second c.cycles_both.ensures.first_narrows c.cycles_both.ensures.second_narrows c.cycles_both.new.pair c.cycles_both.ensures.paired
     (ended_in state c.and-ended.result.items) some more
+
+pub returns-in-Ok-clause-machine : goal.returns-in-Ok-clause-machine
+returns-in-Ok-clause-machine g c = rw (← c.self.view_is) (told_machine _ _ _ c.cycles_both.ensures.second)
+
+pub returns-in-Ok-clause-loads : goal.returns-in-Ok-clause-loads
+returns-in-Ok-clause-loads g c = rw (← c.self.view_is) refl
+
+pub returns-in-Ok-clause-second_name : goal.returns-in-Ok-clause-second_name
+returns-in-Ok-clause-second_name g c = rw (← c.self.view_is) refl
+
+pub returns-in-Err-Failed-clause-machine : goal.returns-in-Err-Failed-clause-machine
+returns-in-Err-Failed-clause-machine g c = rw (← c.self.view_is) (told_machine _ _ _ c.cycles_both.ensures.second)
+
+pub returns-in-Err-Failed-clause-loads : goal.returns-in-Err-Failed-clause-loads
+returns-in-Err-Failed-clause-loads g c = rw (← c.self.view_is) refl
+
+pub returns-in-Err-Failed-clause-second_name : goal.returns-in-Err-Failed-clause-second_name
+returns-in-Err-Failed-clause-second_name g c = rw (← c.self.view_is) refl
+
+pub returns-in-Err-Memory-clause-machine : goal.returns-in-Err-Memory-clause-machine
+returns-in-Err-Memory-clause-machine g c = rw (← c.self.view_is) (told_machine _ _ _ c.cycles_both.ensures.second)
+
+pub returns-in-Err-Memory-clause-loads : goal.returns-in-Err-Memory-clause-loads
+returns-in-Err-Memory-clause-loads g c = rw (← c.self.view_is) refl
+
+pub returns-in-Err-Memory-clause-second_name : goal.returns-in-Err-Memory-clause-second_name
+returns-in-Err-Memory-clause-second_name g c = rw (← c.self.view_is) refl
