@@ -129,6 +129,7 @@ impl Bits {
     {
         clear_words(&mut self.words);
     }
+
     /// True only where each bit of a word that is set here is set in the other list, which has the same length.
     pub fn is_word_within(&self, other: &Bits, k: usize) -> bool
         requires { length other.now ≡ length self.now }

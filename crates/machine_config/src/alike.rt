@@ -1,5 +1,5 @@
 //! Lists of crosspoints that begin alike.
-ghost use Rattle.std.specs.Prelude.{◌≡◌, ◌+◌, ◌≤◌, IsTrue, length, take};
+ghost use Rattle.std.specs.Prelude.{◌≡◌, ◌≢◌, ◌+◌, ◌<◌, ◌≤◌, IsTrue, false, length, slice_get, take};
 
 use machine_shape::Cross;
 
@@ -24,6 +24,7 @@ fn count_from(one: &[Cross], other: &[Cross], from: usize) -> usize
     ensures one { result ≤ length one.now }
     ensures other { result ≤ length other.now }
     ensures alike { take result one.now ≡ take result other.now }
+    ensures most { result < length one.now → result < length other.now → slice_get one.now result ≢ slice_get other.now result }
 {
     let most = one.len().min(other.len());
     'places: for k in from..most {
@@ -39,6 +40,7 @@ pub fn count_alike(one: &[Cross], other: &[Cross]) -> usize
     ensures one { result ≤ length one.now }
     ensures other { result ≤ length other.now }
     ensures alike { take result one.now ≡ take result other.now }
+    ensures most { result < length one.now → result < length other.now → slice_get one.now result ≢ slice_get other.now result }
 {
     let parts = one.len().min(other.len()) / PART;
     'parts: for part in 0..parts {
@@ -51,7 +53,8 @@ pub fn count_alike(one: &[Cross], other: &[Cross]) -> usize
 
 /// Whether two lists are one.
 pub fn are_same(one: &[Cross], other: &[Cross]) -> bool
-    ensures { IsTrue result → one.now ≡ other.now }
+    ensures yes { IsTrue result → one.now ≡ other.now }
+    ensures no { result ≡ false → one.now ≢ other.now }
 {
     one == other
 }
