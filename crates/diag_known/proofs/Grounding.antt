@@ -209,7 +209,7 @@ taken_none {k} {links} {j} {from} {left} {feet} t none = record { at = λ i a lt
 pub taken_first : {k : Kept} {links : List Support} {from : ℕ} {left : List Bool} {feet : List (Option Support)} → AreTaken k links 0 from left feet
 taken_first = record { at = λ i a lt at kept. absurd (let none : ⊥ = omega (arith, lt) in none) }
 
-step_there : (ss : List VerifiedWire) (i : ℕ) → i < length ss → (t : VerifiedWire) × (slice_get ss i ≡ Some t)
+pub step_there : (ss : List VerifiedWire) (i : ℕ) → i < length ss → (t : VerifiedWire) × (slice_get ss i ≡ Some t)
 step_there [] i h = absurd (let none : ⊥ = omega (arith, h) in none)
 step_there (s ∷ ss) zero h = (s, refl)
 step_there (s ∷ ss) (suc i) h = step_there ss i (omega (arith, h))
@@ -252,12 +252,16 @@ ground_none {k} {n} wires feet len apart shape steps none wide = record {
         by (yes h) = get_or-replicate len w None None h
         by (no h) = get_or_past (replicate len None) w None (rw length-replicate (omega (arith, h)))
 
--- all that stands by kept crosspoints was found
-module _ (k : Kept) (near : List Near) (n : KnownWires) (wires left : List Bool) (feet : List (Option Support)) (links : AreAllLinks k.shape near) (settled : AreSettled k near n left feet (length n.steps))
-    (whole : (w : ℕ) → InSet wires w → HasWire n.steps w ⊎ InSet left w) (pins : (i : ℕ) → i < pins_of k.shape → has_number left (pin_wire k.shape i) ≡ false) where
-  from_foot : (w x a : ℕ) → IsKeptCrossOf k x → Ends (ends_of k.shape x) a w → HasWire n.steps a → IsSettled left feet w a
-  from_foot w x a c e has = settled w x a (record { place = has.place; early = at_within has.at; at = has.at }) (links.whole a x w (record { within = c.0; at = ends_turned e })) c.1
+-- the foot of a wire to one that stands, over links that were all taken
+pub foot_by_links : (k : Kept) (near : List Near) (n : KnownWires) (left : List Bool) (feet : List (Option Support)) → AreAllLinks k.shape near → AreSettled k near n left feet (length n.steps) →
+    (w x a : ℕ) → IsKeptCrossOf k x → Ends (ends_of k.shape x) a w → HasWire n.steps a → IsSettled left feet w a
+foot_by_links k near n left feet links settled w x a c e has =
+    settled w x a (record { place = has.place; early = at_within has.at; at = has.at }) (links.whole a x w (record { within = c.0; at = ends_turned e })) c.1
 
+-- all that stands by kept crosspoints was found
+module _ (k : Kept) (n : KnownWires) (wires left : List Bool) (feet : List (Option Support))
+    (from_foot : (w x a : ℕ) → IsKeptCrossOf k x → Ends (ends_of k.shape x) a w → HasWire n.steps a → IsSettled left feet w a)
+    (whole : (w : ℕ) → InSet wires w → HasWire n.steps w ⊎ InSet left w) (pins : (i : ℕ) → i < pins_of k.shape → has_number left (pin_wire k.shape i) ≡ false) where
   by_pin : (i : ℕ) → i < pins_of k.shape → HasWire n.steps (pin_wire k.shape i) ⊎ InSet left (pin_wire k.shape i) → HasWire n.steps (pin_wire k.shape i)
   by_pin i lt (inl has) = has
   by_pin i lt (inr l) = absurd (false≢true (sym (pins i lt) ∙ l))

@@ -8,6 +8,7 @@ pub mod Linking
 pub mod Grounding
 pub mod Stood
 pub mod Counting
+mod Crosswise
 pub mod Taking
 pub mod Besides
 pub mod Passing

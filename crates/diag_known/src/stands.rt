@@ -17,7 +17,7 @@ use machine_shape::{Pin, Shape, Wire, the_numbering_is_sound};
 use std::alloc::{AllocError, Global};
 
 // No foot, for each wire.
-fn no_feet(alloc: Global, wires: u32) -> Result<Vec<Option<Support>>, AllocError>
+pub(crate) fn no_feet(alloc: Global, wires: u32) -> Result<Vec<Option<Support>>, AllocError>
     ensures { IfOk result (λ feet. feet.items ≡ replicate wires None) }
 {
     let mut feet = Vec::new(alloc);
@@ -52,7 +52,7 @@ fn take_pin(
 }
 
 // Those pins of the machine that are left stand.
-fn take_pins(
+pub(crate) fn take_pins(
     known: &mut Known,
     left: &mut BitSet,
     feet: &Vec<Option<Support>>,
@@ -71,7 +71,7 @@ fn take_pins(
 
 // A wire that is left at the end of a link stands, if the link's crosspoint is kept and it has a foot to another wire.
 // Else the link is its foot.
-fn take_link(
+pub(crate) fn take_link(
     known: &mut Known,
     left: &mut BitSet,
     feet: &mut Vec<Option<Support>>,
@@ -192,17 +192,4 @@ pub fn stand_on(
     take_pins(&mut known, &mut left, &feet, facts)?;
     look_from_all(&mut known, &mut left, &mut feet, facts, near)?;
     Ok(known)
-}
-
-/// Those of some wires that stand by kept crosspoints alone: the pins of the machine, and each with two such crosspoints to
-/// different ones that stand. The wires are kept, and each two of them kept apart. Wants memory, and makes no load.
-pub fn standing(alloc: Global, facts: &Facts, wires: BitSet) -> Result<Known, AllocError>
-    requires apart { AreApart facts.now wires }
-    ensures known { IfOk result (IsKnown facts.now) }
-    ensures within { IfOk result (λ known. (w : ℕ) → HasWire known.steps w → InSet wires w) }
-    ensures whole { IfOk result (λ known. (w : ℕ) → StandsBy facts.now.shape (InSet wires) (IsKeptCrossOf facts.now) w
-        → HasWire known.steps w) }
-{
-    let near = all_links(alloc, &facts.shape())?;
-    stand_on(alloc, facts, wires, &near)
 }

@@ -19,6 +19,13 @@ fn far_end(shape: &Shape, w: Wire, cross: Cross) -> Option<Wire> {
     Some(tap)
 }
 
+/// Of the trees of a look: on which pins its wires hung, and the wires on each pin, which are listed once they are asked for.
+#[derive(Drop)]
+struct Trees {
+    own: Vec<bool>,
+    on_pins: Vec<Vec<Wire>>,
+}
+
 // The pin on which a wire hangs.
 fn pin_of(forest: &Forest, w: Wire) -> Option<u32> {
     if w.0 < forest.shape().wires() {
@@ -88,16 +95,40 @@ fn wires_on(
     Ok(rest)
 }
 
-// The known wires that hang on one of these pins.
-fn all_on(alloc: Global, forest: &Forest, alike: &Vec<bool>) -> Result<Vec<Wire>, AllocError> {
-    let mut wires = Vec::new(alloc);
-    'wires: for u in 0..forest.shape().wires() {
-        if let Some(pin) = pin_of(forest, Wire(u)) {
-            if flag_at(alike, pin) {
-                wires.push(Wire(u))?;
-            }
+// An empty list for each pin.
+fn empty_lists(alloc: Global, pins: u32) -> Result<Vec<Vec<Wire>>, AllocError> {
+    let mut lists = Vec::new(alloc);
+    'pins: for pin in 0..pins {
+        let _ = pin;
+        lists.push(Vec::new(alloc))?;
+    }
+    Ok(lists)
+}
+
+// For each pin the wires that hang on it.
+fn wires_by_pin(alloc: Global, forest: &Forest) -> Result<Vec<Vec<Wire>>, AllocError> {
+    let shape = forest.shape();
+    let mut lists = empty_lists(alloc, shape.pins())?;
+    'wires: for w in 0..shape.wires() {
+        let Some(pin) = forest.pin_of(Wire(w)) else {
+            continue;
+        };
+        if (pin as usize) < lists.len() {
+            lists[pin as usize].push(Wire(w))?;
         }
     }
+    Ok(lists)
+}
+
+// The wires that hang on one of these pins, in the order of their numbers.
+fn all_on(lists: &Vec<Vec<Wire>>, alloc: Global, alike: &Vec<bool>) -> Result<Vec<Wire>, AllocError> {
+    let mut wires = Vec::new(alloc);
+    'pins: for pin in 0..lists.len() {
+        if alike.get(pin).copied() == Some(true) {
+            wires.extend_from_slice(&lists[pin])?;
+        }
+    }
+    wires.sort_by_key(|wire| wire.0)?;
     Ok(wires)
 }
 
@@ -105,14 +136,19 @@ fn all_on(alloc: Global, forest: &Forest, alike: &Vec<bool>) -> Result<Vec<Wire>
 fn suspect(
     chooser: &mut Chooser,
     forest: &Forest,
+    trees: &mut Trees,
     alike: &Vec<bool>,
     w: Wire,
 ) -> Result<(), AllocError> {
-    let wires = if chooser.suspect_count(w) == 0 {
-        all_on(chooser.alloc, forest, alike)?
-    } else {
-        wires_on(chooser, forest, alike, w)?
-    };
+    if chooser.suspect_count(w) > 0 {
+        let wires = wires_on(chooser, forest, alike, w)?;
+        chooser.set_suspects(w, wires);
+        return Ok(());
+    }
+    if trees.on_pins.is_empty() {
+        trees.on_pins = wires_by_pin(chooser.alloc, forest)?;
+    }
+    let wires = all_on(&trees.on_pins, chooser.alloc, alike)?;
     chooser.set_suspects(w, wires);
     Ok(())
 }
@@ -134,7 +170,7 @@ fn hear_one(
     forest: &Forest,
     reads: &Looks,
     bad: &DefectMarks,
-    own: &Vec<bool>,
+    trees: &mut Trees,
     hang: (Wire, bool, u32),
 ) -> Result<(), AllocError> {
     let (w, kept, pin) = hang;
@@ -148,8 +184,8 @@ fn hear_one(
     if chooser.aim != Aim::Partners && !in_set(&bad.unfit, w.0) {
         return Ok(());
     }
-    match pins_alike(chooser.alloc, forest, reads, own, pin, kept)? {
-        Some(alike) => suspect(chooser, forest, &alike, w),
+    match pins_alike(chooser.alloc, forest, reads, &trees.own, pin, kept)? {
+        Some(alike) => suspect(chooser, forest, trees, &alike, w),
         None => Ok(()),
     }
 }
@@ -182,7 +218,10 @@ pub(crate) fn hear(
     bad: &DefectMarks,
 ) -> Result<(), AllocError> {
     let shape = facts.shape();
-    let own = own_pins(chooser.alloc, told, forest, &shape)?;
+    let mut trees = Trees {
+        own: own_pins(chooser.alloc, told, forest, &shape)?,
+        on_pins: Vec::new(chooser.alloc),
+    };
     'feet: for at in 0..told.feet.len() {
         let Some((w, cross)) = told.feet.get(at).copied() else {
             continue;
@@ -192,7 +231,7 @@ pub(crate) fn hear(
         };
         if let Some(pin) = pin_of(forest, end) {
             let hang = (w, keeps(facts, cross), pin);
-            hear_one(chooser, forest, reads, bad, &own, hang)?;
+            hear_one(chooser, forest, reads, bad, &mut trees, hang)?;
         }
     }
     Ok(())

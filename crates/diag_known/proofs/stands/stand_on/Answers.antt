@@ -1,5 +1,5 @@
 use Rattle.diag_known.proofs.Vocabulary.{◌∙◌, ap, wires_of}
-use Rattle.diag_known.proofs.Grounding.{ground_none, founds_then, stands_all, out_still}
+use Rattle.diag_known.proofs.Grounding.{foot_by_links, ground_none, founds_then, stands_all, out_still}
 use Rattle.diag_known.proofs.Stood.{all_from, no_wire}
 use Rattle.diag_known.proofs.stands.stand_on.Goals as goal
 
@@ -19,5 +19,7 @@ pub returns-clause-whole : goal.returns-clause-whole
 returns-clause-whole c =
     let founds = c.in_ok-look_from_all.ensures.founds in
     let all = founds_then c.in_ok-take_pins.ensures.founds founds in
-    stands_all c.args.facts.now c.args.near.now.items c.look_from_all.new.known c.args.wires c.look_from_all.new.left c.look_from_all.new.feet.items c.requires.links c.in_ok-look_from_all.ensures.settled
-    all.whole (λ i less. out_still founds _ (c.in_ok-take_pins.ensures.taken i less))
+    let known = c.look_from_all.new.known in
+    let left = c.look_from_all.new.left in
+    let feet = c.look_from_all.new.feet.items in
+    stands_all c.args.facts.now known c.args.wires left feet (foot_by_links c.args.facts.now c.args.near.now.items known left feet c.requires.links c.in_ok-look_from_all.ensures.settled) all.whole (λ i less. out_still founds _ (c.in_ok-take_pins.ensures.taken i less))
