@@ -2,7 +2,7 @@
 use Rattle.std.proofs.Common.{◌≡◌, ◌⊎◌, ℕ, ◌+◌, ◌*◌, ◌<◌, ◌≤◌, Bool, true, false, Option, Some, List, length, refl, sym, ap, ◌∙◌, subst, inl, inr, arith, slice_get, nat_lt}
 use Rattle.diag_known.proofs.Vocabulary.{false≢true, nat_tests, in_order, turned, has_number, Ends, Kept, Shape, Support, VerifiedWire, ends_of, crosses_of, keeps_cross, wires_of}
 use Rattle.machine_shape.specs.Vocabulary.{HasCrosses, HasRows, IsNumbered, first_cross_of, line_at, lines_of, nodes_of, tap_at, taps_of}
-use Rattle.machine_shape.specs.Shape.{cross_at, node_of_cross, tap_position, line_position}
+use Rattle.machine_shape.specs.Shape.{node_of_cross, tap_position, line_position}
 use Rattle.diag_known.specs.declared.looks.{Crossing.Crossing, Row.Row}
 use Rattle.diag_known.specs.Vocabulary.{KnownWires, IsAt, HasWire, InSet, IsBetween, IsCrossing, IsKeptCrossOf, IsGround, IsRow, IsSettled, HasStood, IsCrossSettled, IsRowSettled, AreRowsSettled, IsNodeSettled, AreNodesSettled, AreAllSettled, Founds}
 use Rattle.diag_known.proofs.Grounding.{step_there}

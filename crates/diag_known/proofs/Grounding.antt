@@ -7,7 +7,6 @@ use native.Mathlib.Decide.{dec_lt, ℕ_discrete}
 use Rattle.base_bits.proofs.NumbersLemmas.{size_of-taken}
 use Rattle.diag_known.specs.Vocabulary.{KnownWires, IsAt, HasWire, IsFoot, Stands, IsKnown, IsKeptCrossOf, InSet, AreApart, IsGood, list_at, HasLink, IsBetween, AreAllLinks, foot_at, IsFootTo, IsGround, IsSettled, Founds, AreSettled}
 use Rattle.machine_meaning.specs.Standing.{StandsBy, pin_stands, on_two}
-use Rattle.diag_known.specs.declared.verified_wire.SupportedBy.TheVariants as stand
 use Rattle.diag_known.proofs.Places.{at_later, has_later, get_pushed, get_last, at_one, some_same, at_within}
 use Rattle.diag_known.proofs.Later.{learnt}
 

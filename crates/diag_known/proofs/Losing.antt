@@ -1,5 +1,5 @@
 -- What is lost, tried or kept unless it is stuck stays so, as further wires are known.
-use Rattle.diag_known.proofs.Vocabulary.{◌≡◌, ℕ, ◌+◌, Option, List, ◌++◌, subst, inl, inr, Shape, Faults, Kept, IsMore, holds_earlier}
+use Rattle.diag_known.proofs.Vocabulary.{◌≡◌, ℕ, Option, List, ◌++◌, subst, inl, inr, Shape, Faults, Kept, IsMore, holds_earlier}
 use Rattle.diag_known.proofs.Vocabulary.{AreLost, IsFit, IsLost, IsKeptUnlessStuck, IsTried, VerifiedWire}
 use Rattle.diag_known.proofs.Places.{has_later}
 

@@ -1,5 +1,5 @@
 -- Marks, and the loads that they stand for.
-use Rattle.std.proofs.Common.{◌≡◌, ◌≢◌, ◌⊎◌, ℕ, ◌+◌, ◌*◌, ◌<◌, ◌≤◌, Bool, true, false, Some, Option, List, length, refl, sym, ap, ◌∙◌, subst, inl, inr, arith, ◌||◌, slice_get, slice_set}
+use Rattle.std.proofs.Common.{◌≡◌, ◌≢◌, ◌⊎◌, ℕ, ◌+◌, ◌*◌, ◌<◌, ◌≤◌, Bool, true, false, Some, Option, List, length, refl, sym, ap, ◌∙◌, subst, inl, inr, arith, ◌||◌, slice_set}
 use Rattle.diag_known.proofs.Vocabulary.{false≢true, has_number, Shape, pin_wire, pins_of, wires_of, crosses_of, Faults, IsFaultless, Kept}
 use Rattle.diag_known.proofs.Vocabulary.{HoldsFor, IsMore, keeps_cross, holds_untried, Marks, VerifiedWire}
 use native.Mathlib.Decide.{dec_lt}

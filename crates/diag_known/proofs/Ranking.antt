@@ -1,5 +1,5 @@
 -- The places of wires, where one more is known.
-use Rattle.std.proofs.Common.{◌≡◌, ◌≢◌, ◌⊎◌, ℕ, ◌+◌, ◌*◌, ◌<◌, ◌≤◌, Bool, true, false, Some, None, Option, List, [], ◌∷◌, ◌++◌, ◌||◌, length, refl, sym, ap, ◌∙◌, subst, inl, inr, arith, set, get_or, slice_get, replicate, IfNone, is_some, if◌then◌else◌, ◌==◌}
+use Rattle.std.proofs.Common.{◌≡◌, ◌≢◌, ◌⊎◌, ℕ, ◌*◌, ◌<◌, ◌≤◌, Bool, true, false, Some, None, Option, List, [], ◌∷◌, ◌++◌, ◌||◌, length, refl, sym, ap, ◌∙◌, subst, inl, inr, arith, set, get_or, slice_get, replicate, IfNone, is_some, if◌then◌else◌, ◌==◌}
 use Rattle.std.proofs.lemmas.List.{get_or-set_same, get_or-set_other, get_or-replicate, get_or_past, length-replicate, length-set, length-append}
 use Rattle.std.specs.List.{count_by}
 use Rattle.diag_known.proofs.Vocabulary.{sum_by-set, count_by-le-length, sum_by-replicate, nat_tests, false≢true, has_number, wires_of}

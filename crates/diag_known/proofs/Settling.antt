@@ -1,8 +1,7 @@
 -- Marks stay right, while more is kept and known, and where one is set.
-use Rattle.std.proofs.Common.{◌≡◌, ◌≢◌, ◌⊎◌, ℕ, ◌+◌, ◌<◌, Bool, true, false, Some, Option, List, [], ◌++◌, refl, sym, ◌∙◌, subst, inl, inr, slice_get, slice_set, Result, Ok, Err, IfOk, OnOk, IsTrue, arith, ◌==◌}
+use Rattle.std.proofs.Common.{◌≡◌, ◌⊎◌, ℕ, ◌<◌, Bool, true, false, Some, Option, List, [], ◌++◌, refl, sym, ◌∙◌, subst, inl, inr, slice_set, Result, Ok, Err, IfOk, OnOk, IsTrue, arith, ◌==◌}
 use Rattle.diag_known.proofs.Vocabulary.{false≢true, or_left, nat_tests, length-set, append-nil, has_number, Shape, Ends, in_order, turned}
 use Rattle.diag_known.proofs.Vocabulary.{ends_of, crosses_of, Faults, IsFaultless, holds_earlier, Marks, Support, VerifiedWire}
-use native.Mathlib.Decide.{ℕ_discrete}
 use Rattle.diag_evidence.specs.Kept.{Kept, HoldsUntried, IsMore, Gains, one_cross, keeps_cross}
 use Rattle.diag_known.specs.Vocabulary.{HasWire, is_spent, IsSecondMark, AreMarks, AreMarksOver, OffersAtMost, IsLost, IsLinkTo, IsKeptUnlessStuck, IsFaulty}
 use Rattle.diag_known.proofs.Counting.{set_only}

@@ -1,5 +1,5 @@
 -- One more wire stands.
-use Rattle.std.proofs.Common.{◌≡◌, ◌≢◌, ◌⊎◌, ℕ, ◌+◌, ◌<◌, ◌≤◌, Bool, true, false, Option, Some, None, List, [], ◌∷◌, ◌++◌, length, get_or, sym, ap, ◌∙◌, subst, inl, inr, arith, set, slice_get}
+use Rattle.std.proofs.Common.{◌≡◌, ◌≢◌, ◌⊎◌, ℕ, ◌<◌, ◌≤◌, Bool, true, false, Option, Some, None, List, [], ◌∷◌, ◌++◌, length, get_or, sym, ap, ◌∙◌, subst, inl, inr, arith, set, slice_get}
 use Rattle.diag_known.proofs.Vocabulary.{false≢true, get_or_past, get_or_read, has_number, Shape, Kept, Near, Support, VerifiedWire}
 use native.Mathlib.Decide.{dec_lt}
 use Rattle.machine_shape.specs.Vocabulary.{pin_wire, pins_of, wires_of, IsNumbered}

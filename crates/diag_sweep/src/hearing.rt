@@ -121,7 +121,11 @@ fn wires_by_pin(alloc: Global, forest: &Forest) -> Result<Vec<Vec<Wire>>, AllocE
 }
 
 // The wires that hang on one of these pins, in the order of their numbers.
-fn all_on(lists: &Vec<Vec<Wire>>, alloc: Global, alike: &Vec<bool>) -> Result<Vec<Wire>, AllocError> {
+fn all_on(
+    lists: &Vec<Vec<Wire>>,
+    alloc: Global,
+    alike: &Vec<bool>,
+) -> Result<Vec<Wire>, AllocError> {
     let mut wires = Vec::new(alloc);
     'pins: for pin in 0..lists.len() {
         if alike.get(pin).copied() == Some(true) {

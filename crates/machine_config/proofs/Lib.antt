@@ -13,7 +13,6 @@ pub mod Cells
 pub mod FirstReadings
 pub mod Distance
 -- For the proofs of this crate alone.
-mod Beginnings
 mod Finite
 mod Registers
 mod Vocabulary

@@ -6,14 +6,20 @@ use machine_shape::Cross;
 /// How many crosspoints are compared at a time.
 const PART: usize = 256;
 
-// Whether two lists that are alike up to a place are so for another part.
+// Whether two lists that are alike up to a place are so for another part. Each is looked at, which a compiler does several at a time.
 fn are_alike(one: &[Cross], other: &[Cross], from: usize) -> bool
     requires one { from + 256 ≤ length one.now }
     requires other { from + 256 ≤ length other.now }
     requires alike { take from one.now ≡ take from other.now }
     ensures { IsTrue result → take (from + 256) one.now ≡ take (from + 256) other.now }
 {
-    &one[from..from + PART] == &other[from..from + PART]
+    let mut same = true;
+    'places: for k in from..from + PART {
+        if one[k].0 != other[k].0 {
+            same = false;
+        }
+    }
+    same
 }
 
 // How many crosspoints come first in both of two lists that are alike up to a place.
@@ -56,5 +62,5 @@ pub fn are_same(one: &[Cross], other: &[Cross]) -> bool
     ensures yes { IsTrue result → one.now ≡ other.now }
     ensures no { result ≡ false → one.now ≢ other.now }
 {
-    one == other
+    one.len() == other.len() && count_alike(one, other) == one.len()
 }
