@@ -1,153 +1,183 @@
--- What stands, as all crosspoints are looked at.
-use Rattle.std.proofs.Common.{◌≡◌, ◌⊎◌, ℕ, ◌+◌, ◌*◌, ◌<◌, ◌≤◌, Bool, true, false, Option, Some, List, length, refl, sym, ap, ◌∙◌, subst, inl, inr, arith, slice_get, nat_lt}
-use Rattle.diag_known.proofs.Vocabulary.{false≢true, nat_tests, in_order, turned, has_number, Ends, Kept, Shape, Support, VerifiedWire, ends_of, crosses_of, keeps_cross, wires_of}
-use Rattle.machine_shape.specs.Vocabulary.{HasCrosses, HasRows, IsNumbered, first_cross_of, line_at, lines_of, nodes_of, tap_at, taps_of}
-use Rattle.machine_shape.specs.Shape.{node_of_cross, tap_position, line_position}
-use Rattle.diag_known.specs.declared.looks.{Crossing.Crossing, Row.Row}
-use Rattle.diag_known.specs.Vocabulary.{KnownWires, IsAt, HasWire, InSet, IsBetween, IsCrossing, IsKeptCrossOf, IsGround, IsRow, IsSettled, HasStood, IsCrossSettled, IsRowSettled, AreRowsSettled, IsNodeSettled, AreNodesSettled, AreAllSettled, Founds}
+-- What stands, as all is looked at that a wire crosses which stands.
+use Rattle.std.proofs.Common.{◌≡◌, ◌≢◌, ◌⊎◌, ℕ, ◌+◌, ◌<◌, ◌≤◌, Bool, true, false, Option, Some, List, length, refl, sym, ap, ◌∙◌, subst, inl, inr, arith, slice_get, zero, suc, Result, Ok, Err, OnOk}
+use Rattle.diag_known.proofs.Vocabulary.{in_order, turned, has_number, Ends, Kept, Shape, Support, VerifiedWire, ends_of, crosses_of, keeps_cross}
+use native.Mathlib.Decide.{dec_lt}
+use Rattle.machine_shape.specs.Vocabulary.{HasCrosses, HasHomes, HasMeetings, HasParents, HasTaps, IsLine, IsTap, IsTree, line_at, line_position, lines_of, node_of, node_of_cross, nodes_of, parent_of, tap_at, tap_child, tap_pin, tap_port, tap_position, tap_table, taps_of}
+use Rattle.diag_known.specs.declared.looks.Across.{Across}
+use Rattle.diag_known.specs.declared.looks.Across.TheVariants as across
+use Rattle.diag_known.specs.Vocabulary.{KnownWires, IsAt, HasWire, IsBetween, IsKeptCrossOf, IsSettled, Founds, AreLooked, AreLookedAcross, IsLookedAt, IsLookedFrom, across_at, across_of, ends_by}
 use Rattle.diag_known.proofs.Grounding.{step_there}
-use Rattle.diag_known.proofs.Places.{at_one, at_within, one_more}
-use Rattle.diag_known.proofs.Settling.{ends_same}
+use Rattle.diag_known.proofs.Places.{at_one, at_within, one_more, some_same}
 
--- a wire that stands isn't left, and so it is settled
-stands_settled : {k : Kept} {n : KnownWires} {left : List Bool} {feet : List (Option Support)} → IsGround k n left feet → (w u : ℕ) → HasWire n.steps w → IsSettled left feet w u
-stands_settled {left = left} g w u has = inl (by (has_number left w) refl)
+-- a crosspoint with these ends leads from the one wire to the other
+pub between_across : {m : Shape} (a : Across) {c u w : ℕ} → c < crosses_of m → ends_of m c ≡ ends_by a u w → IsBetween m c w u
+between_across across.Lines within e = record { within = within; at = turned (ap (λ (p : ℕ × ℕ). p.0) e) (ap (λ (p : ℕ × ℕ). p.1) e) }
+between_across across.Taps within e = record { within = within; at = in_order (ap (λ (p : ℕ × ℕ). p.0) e) (ap (λ (p : ℕ × ℕ). p.1) e) }
+
+-- a wire that isn't left
+pub looked_out : {k : Kept} {left : List Bool} {feet : List (Option Support)} (u w : ℕ) (ends : ℕ × ℕ) → has_number left w ≡ false → IsLookedAt k left feet u w ends
+looked_out u w ends out = record { at = λ x less kept e. inl out }
+
+-- no crosspoint has these ends
+pub looked_none : {k : Kept} {left : List Bool} {feet : List (Option Support)} (u w : ℕ) (ends : ℕ × ℕ) → ((x : ℕ) → x < crosses_of k.shape → ends_of k.shape x ≢ ends) → IsLookedAt k left feet u w ends
+looked_none u w ends none = record { at = λ x less kept e. absurd (none x less e) }
+
+-- the crosspoint with these ends was looked at
+pub looked_one : {k : Kept} {left : List Bool} {feet : List (Option Support)} (u w c : ℕ) (ends : ℕ × ℕ) → HasCrosses k.shape → c < crosses_of k.shape → ends_of k.shape c ≡ ends →
+    (keeps_cross k c ≡ true → IsSettled left feet w u) → IsLookedAt k left feet u w ends
+looked_one {k} u w c ends crosses within is settled = record { at = λ x less kept e. settled (subst (λ y. keeps_cross k y ≡ true) (crosses.one x c less within (e ∙ sym is)) kept) }
+
+-- what was looked at still is, and one more
+module _ {k : Kept} {old new : KnownWires} {left rest : List Bool} {feet more : List (Option Support)} (f : Founds old new left rest feet more) where
+  looked_still : {u w : ℕ} {ends : ℕ × ℕ} → IsLookedAt k left feet u w ends → IsLookedAt k rest more u w ends
+  looked_still {u} {w} s = record { at = λ x less kept e. f.settled w u (s.at x less kept e) }
+
+  pub across_still : (a : Across) (u n count : ℕ) → AreLookedAcross k left feet a u n count → AreLookedAcross k rest more a u n count
+  across_still a u n count s i less = looked_still (s i less)
+
+  pub across_more : (a : Across) (u n i w : ℕ) → AreLookedAcross k left feet a u n i → w ≡ across_at k.shape a n i → IsLookedAt k rest more u w (ends_by a u w) → AreLookedAcross k rest more a u n (i + 1)
+  across_more a u n i w was is now = one_more (λ j. IsLookedAt k rest more u (across_at k.shape a n j) (ends_by a u (across_at k.shape a n j))) i (λ j less. looked_still (was j less))
+      (subst (λ v. IsLookedAt k rest more u v (ends_by a u v)) is now)
+
+-- what stood stands
+pub has_after : {old new : KnownWires} {left rest : List Bool} {feet more : List (Option Support)} {u : ℕ} → Founds old new left rest feet more → HasWire old.steps u → HasWire new.steps u
+has_after {u = u} f has = record { place = has.place; at = f.stays has.place u has.at }
+
+-- what holds of a shape holds of the one that was asked
+pub found_at : {m n : Shape} {c : ℕ} {ends : ℕ × ℕ} → m ≡ n → (c < crosses_of m) × (ends_of m c ≡ ends) → (c < crosses_of n) × (ends_of n c ≡ ends)
+found_at {c = c} {ends = ends} same f = subst (λ (o : Shape). (c < crosses_of o) × (ends_of o c ≡ ends)) same f
+
+pub above_looked : {m : Shape} {k : Kept} {left : List Bool} {feet : List (Option Support)} (a : Across) (u node p n : ℕ) → m ≡ k.shape → parent_of m node ≡ Some p → parent_of k.shape node ≡ Some n →
+    AreLookedAcross k left feet a u p (across_of k.shape a p) → AreLookedAcross k left feet a u n (across_of k.shape a n)
+above_looked {k = k} {left = left} {feet = feet} a u node p n same at up s =
+    subst (λ i. AreLookedAcross k left feet a u i (across_of k.shape a i)) (some_same (sym (subst (λ (o : Shape). parent_of o node ≡ Some p) same at) ∙ up)) s
+
+-- the node of whose crossbar a wire is a tap
+tap_nodes : {m : Shape} (tree : IsTree m) (parents : HasParents m) (n w : ℕ) → IsTap m n w → (node_of m w ≡ n) ⊎ (parent_of m (node_of m w) ≡ Some n)
+tap_nodes {m} tree parents n w (tap_pin k e less is) = inl (ap (node_of m) is ∙ parents.pin_node k less ∙ sym e)
+tap_nodes {m} tree parents n w (tap_port p) = inl (tree.port_node n w p)
+tap_nodes {m} tree parents n w (tap_child c up p) = inr (ap (parent_of m) (tree.port_node c w p) ∙ up)
+tap_nodes {m} tree parents n w (tap_table t k less at small is) = inl (ap (node_of m) is ∙ parents.table_node t k less small ∙ at)
+
+-- the ends of a crosspoint, by its node
+ends_here : (m : Shape) → HasCrosses m → (x : ℕ) → x < crosses_of m → ends_of m x ≡ (tap_at m (node_of_cross m x) (tap_position m x), line_at m (node_of_cross m x) (line_position m x))
+ends_here m crosses x less = ap (ends_of m) (sym (crosses.back x less)) ∙ crosses.ends (node_of_cross m x) (tap_position m x) (line_position m x) (crosses.node x less) (crosses.tap x less) (crosses.line x less)
+
+-- a crosspoint's line is of the crosspoint's node
+line_here : (m : Shape) → IsTree m → HasMeetings m → (x u node : ℕ) → node ≡ node_of m u → x < crosses_of m → (ends_of m x).1 ≡ u → node_of_cross m x ≡ node
+line_here m tree meetings x u node home less e = sym (tree.line_node (node_of_cross m x) u (subst (IsLine m (node_of_cross m x)) e (meetings.line x less))) ∙ sym home
+
+-- a wire with a crosspoint as its line is a tap of none
+pub line_is : (m : Shape) → HasMeetings m → HasHomes m → (c t w : ℕ) → (c < crosses_of m) × (ends_of m c ≡ (t, w)) → (x : ℕ) → x < crosses_of m → (ends_of m x).0 ≢ w
+line_is m meetings homes c t w met x less is =
+    homes.no_tap_is_line (node_of_cross m x) (node_of_cross m c) w (subst (IsTap m (node_of_cross m x)) is (meetings.tap x less)) (subst (IsLine m (node_of_cross m c)) (ap (λ (p : ℕ × ℕ). p.1) met.1) (meetings.line c met.0))
+
+positive : (n : ℕ) → n ≢ 0 → 0 < n
+positive zero some = absurd (some refl)
+positive (suc n) some = omega arith
+
+-- a wire that doesn't cross a node's first tap is no line of it
+pub line_not : (m : Shape) → HasTaps m → HasMeetings m → (node t w count : ℕ) → node < nodes_of m → count ≡ taps_of m node → count ≢ 0 → t ≡ tap_at m node 0 → ((c : ℕ) → c < crosses_of m → ends_of m c ≢ (t, w)) →
+    (x : ℕ) → x < crosses_of m → node_of_cross m x ≡ node → (ends_of m x).1 ≢ w
+line_not m taps meetings node t w count low many some first none x less at is = none met.0 met.1 met.2
   where
-    by : (b : Bool) → has_number left w ≡ b → has_number left w ≡ false
-    by true e = absurd (g.fresh w e has)
-    by false e = e
+    more : 0 < taps_of m node
+    more = let tested = positive count some in omega (arith, tested, many)
 
--- what stood stands after a step
-pub stood_still : {m : Shape} {old new : KnownWires} {left rest stood : List Bool} {feet more : List (Option Support)} → Founds old new left rest feet more → HasStood m old stood → HasStood m new stood
-stood_still f s = record { len = s.len; stand = λ w is. let has = s.stand w is in record { place = has.place; at = f.stays has.place w has.at } }
+    met : (c : ℕ) × (c < crosses_of m) × (ends_of m c ≡ (t, w)) × (node_of_cross m c ≡ node)
+    met = meetings.meet node t w (subst (IsTap m node) (sym first) (taps.is_tap node 0 low more)) (subst (λ n. IsLine m n w) at (subst (IsLine m (node_of_cross m x)) is (meetings.line x less)))
 
--- a crosspoint of a row
-pub crossing_in_row : {m : Shape} {r : Row} {c : Crossing} (j : ℕ) → IsRow m r → j < r.lines → c.cross.0 ≡ r.first.cross.0 + j → c.tap.0 ≡ r.first.tap.0 → c.line.0 ≡ r.first.line.0 + j → IsCrossing m c
-crossing_in_row {m} {r} {c} j row less cross tap line = record {
-  up = record { within = subst (λ x. x < crosses_of m) (sym cross) (row.at j less); at = in_order (ap (λ (p : ℕ × ℕ). p.0) ends) (ap (λ (p : ℕ × ℕ). p.1) ends) };
-  down = record { within = subst (λ x. x < crosses_of m) (sym cross) (row.at j less); at = turned (ap (λ (p : ℕ × ℕ). p.0) ends) (ap (λ (p : ℕ × ℕ). p.1) ends) };
-  tap = subst (λ w. w < wires_of m) (sym tap) row.tap;
-  line = subst (λ w. w < wires_of m) (sym line) (row.lines j less);
-}
+pub line_of_none : (m : Shape) → HasCrosses m → (node w count : ℕ) → count ≡ taps_of m node → count ≡ 0 → (x : ℕ) → x < crosses_of m → node_of_cross m x ≡ node → (ends_of m x).1 ≢ w
+line_of_none m crosses node w count many empty x less at is =
+    let low : tap_position m x < taps_of m node = subst (λ n. tap_position m x < taps_of m n) at (crosses.tap x less) in
+    omega (arith, empty, low, many)
+
+-- at a place of a node
+module _ {k : Kept} {left : List Bool} {feet : List (Option Support)} (crosses : HasCrosses k.shape) (u x n w : ℕ) (less : x < crosses_of k.shape) (is : node_of_cross k.shape x ≡ n) (kept : keeps_cross k x ≡ true) where
+  at_line : (ends_of k.shape x).0 ≡ u → (ends_of k.shape x).1 ≡ w → AreLookedAcross k left feet across.Lines u n (lines_of k.shape n) → IsSettled left feet w u
+  at_line e f s =
+      let same : line_at k.shape n (line_position k.shape x) ≡ w = ap (λ i. line_at k.shape i (line_position k.shape x)) (sym is) ∙ sym (ap (λ (p : ℕ × ℕ). p.1) (ends_here k.shape crosses x less)) ∙ f in
+      let low : line_position k.shape x < lines_of k.shape n = subst (λ i. line_position k.shape x < lines_of k.shape i) is (crosses.line x less) in
+      subst (λ v. IsSettled left feet v u) same ((s (line_position k.shape x) low).at x less kept (λ i. (e i, (f ∙ sym same) i)))
+
+  at_tap : (ends_of k.shape x).0 ≡ w → (ends_of k.shape x).1 ≡ u → AreLookedAcross k left feet across.Taps u n (taps_of k.shape n) → IsSettled left feet w u
+  at_tap e f s =
+      let same : tap_at k.shape n (tap_position k.shape x) ≡ w = ap (λ i. tap_at k.shape i (tap_position k.shape x)) (sym is) ∙ sym (ap (λ (p : ℕ × ℕ). p.0) (ends_here k.shape crosses x less)) ∙ e in
+      let low : tap_position k.shape x < taps_of k.shape n = subst (λ i. tap_position k.shape x < taps_of k.shape i) is (crosses.tap x less) in
+      subst (λ v. IsSettled left feet v u) same ((s (tap_position k.shape x) low).at x less kept (λ i. ((e ∙ sym same) i, f i)))
+
+home_so : {m n : Shape} (u node : ℕ) → m ≡ n → node ≡ node_of m u → node ≡ node_of n u
+home_so u node same e = subst (λ (o : Shape). node ≡ node_of o u) same e
+
+-- All that a wire crosses was looked at: a line of its node, or a tap of it and perhaps of the one above.
+module _ {k : Kept} {left : List Bool} {feet : List (Option Support)} {asked : Shape} (same : asked ≡ k.shape) (u node : ℕ) (tree : IsTree k.shape) (crosses : HasCrosses k.shape) (meetings : HasMeetings k.shape) (asked_home : node ≡ node_of asked u) where
+  pub line_looked : ((x : ℕ) → x < crosses_of asked → (ends_of asked x).0 ≢ u) → AreLookedAcross k left feet across.Taps u node (taps_of k.shape node) → IsLookedFrom k left feet u
+  line_looked no_tap s = record { at = λ x w less kept at. by x w less kept at }
+    where
+      no_tap_so : (x : ℕ) → x < crosses_of k.shape → (ends_of k.shape x).0 ≢ u
+      no_tap_so = subst (λ (m : Shape). (x : ℕ) → x < crosses_of m → (ends_of m x).0 ≢ u) same no_tap
+
+      by : (x w : ℕ) → x < crosses_of k.shape → keeps_cross k x ≡ true → Ends (ends_of k.shape x) u w → IsSettled left feet w u
+      by x w less kept (in_order e f) = absurd (no_tap_so x less e)
+      by x w less kept (turned e f) = at_tap crosses u x node w less (line_here k.shape tree meetings x u node (home_so u node same asked_home) less f) kept e f s
+
+  pub tap_looked : HasParents k.shape → ((x : ℕ) → x < crosses_of asked → node_of_cross asked x ≡ node → (ends_of asked x).1 ≢ u) →
+      ((n : ℕ) → parent_of k.shape node ≡ Some n → AreLookedAcross k left feet across.Lines u n (lines_of k.shape n)) → AreLookedAcross k left feet across.Lines u node (lines_of k.shape node) → IsLookedFrom k left feet u
+  tap_looked parents no_line above here = record { at = λ x w less kept at. by x w less kept at }
+    where
+      no_line_so : (x : ℕ) → x < crosses_of k.shape → node_of_cross k.shape x ≡ node → (ends_of k.shape x).1 ≢ u
+      no_line_so = subst (λ (m : Shape). (x : ℕ) → x < crosses_of m → node_of_cross m x ≡ node → (ends_of m x).1 ≢ u) same no_line
+
+      by_node : (x w : ℕ) → x < crosses_of k.shape → keeps_cross k x ≡ true → (ends_of k.shape x).0 ≡ u → (ends_of k.shape x).1 ≡ w →
+          (node_of k.shape u ≡ node_of_cross k.shape x) ⊎ (parent_of k.shape (node_of k.shape u) ≡ Some (node_of_cross k.shape x)) → IsSettled left feet w u
+      by_node x w less kept e f (inl is) = at_line crosses u x node w less (sym is ∙ sym (home_so u node same asked_home)) kept e f here
+      by_node x w less kept e f (inr up) = at_line crosses u x (node_of_cross k.shape x) w less refl kept e f (above (node_of_cross k.shape x) (ap (parent_of k.shape) (home_so u node same asked_home) ∙ up))
+
+      by : (x w : ℕ) → x < crosses_of k.shape → keeps_cross k x ≡ true → Ends (ends_of k.shape x) u w → IsSettled left feet w u
+      by x w less kept (in_order e f) = by_node x w less kept e f (tap_nodes tree parents (node_of_cross k.shape x) u (subst (IsTap k.shape (node_of_cross k.shape x)) e (meetings.tap x less)))
+      by x w less kept (turned e f) = absurd (no_line_so x less (line_here k.shape tree meetings x u node (home_so u node same asked_home) less f) f)
+
+-- the wire at the next place was looked around
+pub looked_more : {k : Kept} {n m : KnownWires} {left rest : List Bool} {feet more : List (Option Support)} {place from : ℕ} → AreLooked k n left feet place → Founds n m left rest feet more → IsAt n.steps place from →
+    IsLookedFrom k rest more from → AreLooked k m rest more (place + 1)
+looked_more {k} {n} {m} {left} {rest} {feet} {more} {place} {from} s f at now u b = by (dec_lt b.place place)
   where
-    ends : ends_of m c.cross.0 ≡ (c.tap.0, c.line.0)
-    ends = ap (ends_of m) cross ∙ row.ends j less ∙ (λ i. (sym tap i, sym line i))
+    here : IsAt m.steps place from
+    here = f.stays place from at
 
--- a row of a node
-module _ {m : Shape} (n i : ℕ) (rows : HasRows m) (node : n < nodes_of m) (tap : i < taps_of m n) where
-  -- its first crosspoint has a number of a crosspoint
-  pub row_low : {first lines : ℕ} → first ≡ first_cross_of m n → lines ≡ lines_of m n → 0 < lines → first + i * lines < crosses_of m
-  row_low {first} {lines} at many some =
-      let low = rows.within n i 0 node tap (subst (λ l. 0 < l) many some) in
-      subst (λ f. f + i * lines < crosses_of m) (sym at) (subst (λ l. first_cross_of m n + i * l < crosses_of m) (sym many) (omega (arith, low)))
+    long : place < length n.steps
+    long = at_within at
 
-  pub row_is : {r : Row} → IsNumbered m → r.first.cross.0 ≡ first_cross_of m n + i * lines_of m n → r.first.tap.0 ≡ tap_at m n i → r.first.line.0 ≡ line_at m n 0 → r.lines ≡ lines_of m n →
-      r.first.tap.0 < wires_of m → crosses_of m ≤ 268435456 → wires_of m ≤ 1310720 → IsRow m r
-  row_is {r} numbered cross is_tap line many low few few_wires = record {
-    at = λ j less. subst (λ x. x < crosses_of m) (sym (there j)) (rows.within n i j node tap (below j less));
-    ends = λ j less. ap (ends_of m) (there j) ∙ rows.ends n i j node tap (below j less) ∙ (λ d. (sym is_tap d, sym (line_there j) d));
-    tap = low;
-    lines = λ j less. subst (λ w. w < wires_of m) (sym (line_there j)) (numbered.ends (first_cross_of m n + i * lines_of m n + j) (line_at m n j) (tap_at m n i) (rows.within n i j node tap (below j less))
-        (turned (ap (λ (p : ℕ × ℕ). p.0) (rows.ends n i j node tap (below j less))) (ap (λ (p : ℕ × ℕ). p.1) (rows.ends n i j node tap (below j less)))));
-    few = few;
-    few_wires = few_wires;
-  }
-    where
-      there : (j : ℕ) → r.first.cross.0 + j ≡ first_cross_of m n + i * lines_of m n + j
-      there j = ap (λ x. x + j) cross
+    old : b.place < place → IsAt n.steps b.place u
+    old early = was (step_there n.steps b.place (omega (arith, early, long)))
+      where
+        was : (t : VerifiedWire) × (slice_get n.steps b.place ≡ Some t) → IsAt n.steps b.place u
+        was t =
+            let v : IsAt n.steps b.place t.0.wire.0 = record { step = t.0; here = t.1; wire = refl } in
+            record { step = t.0; here = t.1; wire = at_one (f.stays b.place t.0.wire.0 v) b.at }
 
-      line_there : (j : ℕ) → r.first.line.0 + j ≡ line_at m n j
-      line_there j = ap (λ x. x + j) line ∙ sym (rows.line n j)
+    by : Dec (b.place < place) → IsLookedFrom k rest more u
+    by (yes early) = record { at = λ x w less kept at. f.settled w u ((s u (record { place = b.place; early = early; at = old early })).at x w less kept at) }
+    by (no late) =
+        let lt = b.early in
+        let same : b.place ≡ place = omega (arith, late, lt) in
+        subst (IsLookedFrom k rest more) (sym (at_one b.at (subst (λ p. IsAt m.steps p from) (sym same) here))) now
 
-      below : (j : ℕ) → j < r.lines → j < lines_of m n
-      below j less = subst (λ l. j < l) many less
+pub looked_first : (k : Kept) (n : KnownWires) (left : List Bool) (feet : List (Option Support)) → AreLooked k n left feet 0
+looked_first k n left feet u b = absurd (let e = b.early in let none : ⊥ = omega (arith, e) in none)
 
--- the crosspoint isn't kept
-pub cross_free : {k : Kept} {left stood : List Bool} {feet : List (Option Support)} (x : ℕ) → keeps_cross k x ≡ false → IsCrossSettled k left feet stood x
-cross_free x free = record { at = λ u w kept at has. absurd (false≢true (sym free ∙ kept)) }
-
-module _ {k : Kept} {left stood : List Bool} {feet : List (Option Support)} {x a b : ℕ} (ends : IsBetween k.shape x a b) where
-  -- neither of its wires is left
-  pub cross_out : has_number left a ≡ false → has_number left b ≡ false → IsCrossSettled k left feet stood x
-  cross_out out_a out_b = record { at = λ u w kept at has. by u w (ends_same ends.at at) }
-    where
-      by : (u w : ℕ) → ((a ≡ u) × (b ≡ w)) ⊎ ((a ≡ w) × (b ≡ u)) → IsSettled left feet w u
-      by u w (inl e) = inl (ap (has_number left) (sym e.1) ∙ out_b)
-      by u w (inr e) = inl (ap (has_number left) (sym e.0) ∙ out_a)
-
-  -- neither stood
-  pub cross_apart : has_number stood a ≡ false → has_number stood b ≡ false → IsCrossSettled k left feet stood x
-  cross_apart none_a none_b = record { at = λ u w kept at has. by u w has (ends_same ends.at at) }
-    where
-      by : (u w : ℕ) → InSet stood u → ((a ≡ u) × (b ≡ w)) ⊎ ((a ≡ w) × (b ≡ u)) → IsSettled left feet w u
-      by u w has (inl e) = absurd (false≢true (sym none_a ∙ ap (has_number stood) e.0 ∙ has))
-      by u w has (inr e) = absurd (false≢true (sym none_b ∙ ap (has_number stood) e.1 ∙ has))
-
--- the wire at its one end stood, and that at its other end was looked at
-pub cross_taken : {k : Kept} {old new : KnownWires} {left rest stood : List Bool} {feet more : List (Option Support)} {x a b : ℕ} → IsBetween k.shape x a b → HasWire old.steps a → IsGround k new rest more → Founds old new left rest feet more →
-    (keeps_cross k x ≡ true → IsSettled rest more b a) → IsCrossSettled k rest more stood x
-cross_taken {k} {rest = rest} {more = more} {x = x} {a = a} {b = b} ends has g f settled = record { at = λ u w kept at stands. by u w kept (ends_same ends.at at) }
-  where
-    by : (u w : ℕ) → keeps_cross k x ≡ true → ((a ≡ u) × (b ≡ w)) ⊎ ((a ≡ w) × (b ≡ u)) → IsSettled rest more w u
-    by u w kept (inl e) = subst (λ v. IsSettled rest more w v) e.0 (subst (λ v. IsSettled rest more v a) e.1 (settled kept))
-    by u w kept (inr e) = subst (λ v. IsSettled rest more v u) e.0 (stands_settled g a u (record { place = has.place; at = f.stays has.place a has.at }))
-
--- what was settled still is, and one more was looked at: a crosspoint of a row, a row of a node, and a node
-module _ {k : Kept} {old new : KnownWires} {left rest stood : List Bool} {feet more : List (Option Support)} (f : Founds old new left rest feet more) where
-  cross_still : {x : ℕ} → IsCrossSettled k left feet stood x → IsCrossSettled k rest more stood x
-  cross_still s = record { at = λ u w kept at has. f.settled w u (s.at u w kept at has) }
-
-  pub row_more : (x j c : ℕ) → IsRowSettled k left feet stood x j → c ≡ x + j → IsCrossSettled k rest more stood c → IsRowSettled k rest more stood x (j + 1)
-  row_more x j c was same now = one_more (λ i. IsCrossSettled k rest more stood (x + i)) j (λ i less. cross_still (was i less)) (subst (IsCrossSettled k rest more stood) same now)
-
-  pub rows_more : (node i x lines : ℕ) → AreRowsSettled k left feet stood node i → x ≡ first_cross_of k.shape node + i * lines_of k.shape node → lines ≡ lines_of k.shape node →
-      IsRowSettled k rest more stood x lines → AreRowsSettled k rest more stood node (i + 1)
-  rows_more node i x lines was same all now = one_more (λ a. IsRowSettled k rest more stood (first_cross_of k.shape node + a * lines_of k.shape node) (lines_of k.shape node)) i
-      (λ a less j low. cross_still (was a less j low)) (subst (λ y. IsRowSettled k rest more stood y (lines_of k.shape node)) same (subst (IsRowSettled k rest more stood x) all now))
-
-  pub nodes_more : (node : ℕ) → AreNodesSettled k left feet stood node → IsNodeSettled k rest more stood node → AreNodesSettled k rest more stood (node + 1)
-  nodes_more node was now = one_more (λ a. IsNodeSettled k rest more stood a) node (λ a less i low j lower. cross_still (was a less i low j lower)) now
-
--- what stands now, where no further wire came to stand
-stood_then : {old new : KnownWires} {left rest : List Bool} {feet more : List (Option Support)} → Founds old new left rest feet more → length new.steps ≡ length old.steps → (u : ℕ) → HasWire new.steps u → HasWire old.steps u
-stood_then {old} f none u has = by (step_there old.steps has.place (let low = at_within has.at in omega (arith, low, none)))
-  where
-    by : (t : VerifiedWire) × (slice_get old.steps has.place ≡ Some t) → HasWire old.steps u
-    by t =
-        let then_at : IsAt old.steps has.place t.0.wire.0 = record { step = t.0; here = t.1; wire = refl } in
-        record { place = has.place; at = record { step = t.0; here = t.1; wire = at_one (f.stays has.place t.0.wire.0 then_at) has.at } }
-
--- All is settled then: each crosspoint is of a row of a node.
-module _ {k : Kept} {old new : KnownWires} {left rest stood : List Bool} {feet more : List (Option Support)} (f : Founds old new left rest feet more) (none : length new.steps ≡ length old.steps)
-    (whole : (w : ℕ) → HasWire old.steps w → InSet stood w) where
-  pub all_settled : HasCrosses k.shape → HasRows k.shape → AreNodesSettled k rest more stood (nodes_of k.shape) → AreAllSettled k new rest more
-  all_settled crosses rows settled = record { at = λ x u w less kept at has. (here x less).at u w kept at (whole u (stood_then f none u has)) }
-    where
-      here : (x : ℕ) → x < crosses_of k.shape → IsCrossSettled k rest more stood x
-      here x less =
-          let m : Shape = k.shape in
-          let n : ℕ = node_of_cross m x in
-          let is : first_cross_of m n + tap_position m x * lines_of m n + line_position m x ≡ x = sym (rows.cross n (tap_position m x) (line_position m x)) ∙ crosses.back x less in
-          subst (IsCrossSettled k rest more stood) is (settled n (crosses.node x less) (tap_position m x) (crosses.tap x less) (line_position m x) (crosses.line x less))
-
--- no wire more than there were
-pub none_more : {old new : KnownWires} {left rest : List Bool} {feet more : List (Option Support)} → Founds old new left rest feet more → (a b : ℕ) → a ≡ length old.steps → b ≡ length new.steps → nat_lt a b ≡ false → length new.steps ≡ length old.steps
-none_more f a b before after none =
-    let g = f.grows in
-    let le : b ≤ a = grind (arith, nat_tests, none) in
-    omega (arith, g, before, after, le)
+-- all places were looked at
+pub looked_at_all : (k : Kept) (n : KnownWires) (left : List Bool) (feet : List (Option Support)) (place : ℕ) → AreLooked k n left feet place → length n.steps ≤ place → AreLooked k n left feet (length n.steps)
+looked_at_all k n left feet place s le u b = s u (record { place = b.place; early = (let e = b.early in omega (arith, e, le)); at = b.at })
 
 -- the foot of a wire to one that stands
-pub foot_by_crosses : (k : Kept) (known : KnownWires) (left : List Bool) (feet : List (Option Support)) → AreAllSettled k known left feet →
+pub foot_by_looks : (k : Kept) (known : KnownWires) (left : List Bool) (feet : List (Option Support)) → AreLooked k known left feet (length known.steps) →
     (w x a : ℕ) → IsKeptCrossOf k x → Ends (ends_of k.shape x) a w → HasWire known.steps a → IsSettled left feet w a
-foot_by_crosses k known left feet s w x a c e has = s.at x a w c.0 c.1 e has
+foot_by_looks k known left feet s w x a c e has = (s a (record { place = has.place; early = at_within has.at; at = has.at })).at x w c.0 c.1 e
 
--- where a row begins, and how many lines it has, by the shape that was asked
-pub row_at : {m n : Shape} (node i : ℕ) {x : ℕ} → m ≡ n → x ≡ first_cross_of m node + i * lines_of m node → x ≡ first_cross_of n node + i * lines_of n node
-row_at node i {x} same e = subst (λ (o : Shape). x ≡ first_cross_of o node + i * lines_of o node) same e
+pub across_asked : {m n : Shape} (a : Across) (node i : ℕ) {w : ℕ} → m ≡ n → w ≡ across_at m a node i → w ≡ across_at n a node i
+across_asked a node i {w} same e = subst (λ (o : Shape). w ≡ across_at o a node i) same e
 
-pub row_lines : {m n : Shape} (node : ℕ) {x : ℕ} → m ≡ n → x ≡ lines_of m node → x ≡ lines_of n node
-row_lines node {x} same e = subst (λ (o : Shape). x ≡ lines_of o node) same e
-
-pub row_begins : {a b first lines : ℕ} (i : ℕ) → a ≡ first → b ≡ lines → a + i * b ≡ first + i * lines
-row_begins {b = b} {first = first} i e f = ap (λ a. a + i * b) e ∙ ap (λ b. first + i * b) f
+pub on_three : {T E A B C D : Type 0} (r : Result T E) → OnOk r A → OnOk r B → OnOk r C → (A → B → C → D) → OnOk r D
+on_three (Ok x) a b c h = h a b c
+on_three (Err e) a b c h = tt

@@ -1,12 +1,12 @@
 -- Which of some wires stand by kept crosspoints, as they are found one after the other.
-use Rattle.std.specs.Prelude.{◌≡◌, ◌≢◌, ◌⊎◌, ℕ, ◌+◌, ◌*◌, ◌<◌, ◌≤◌, Bool, true, false, Option, Some, None, List}
+use Rattle.std.specs.Prelude.{◌≡◌, ◌≢◌, ◌⊎◌, ℕ, ◌+◌, ◌<◌, ◌≤◌, Bool, true, false, Option, Some, None, List}
 use Rattle.std.specs.Prelude.{length, slice_get, slice_index_or}
 use Rattle.base_bits.specs.Numbers.{has_number, size_of}
-use Rattle.machine_shape.specs.{declared.Shape.Shape, Shape.Ends, Shape.ends_of, Shape.crosses_of, Shape.wires_of, Shape.lines_of, Shape.taps_of, Rows.first_cross_of}
+use Rattle.machine_shape.specs.{declared.Shape.Shape, Shape.Ends, Shape.ends_of, Shape.crosses_of, Shape.wires_of}
 use Rattle.diag_evidence.specs.Kept.{Kept, is_apart, keeps_cross, keeps_wire, keeps_pair}
 use Rattle.diag_known.specs.Known.{KnownWires, IsAt, IsBefore, HasWire, IsKnown, InSet}
 use Rattle.diag_known.specs.{Linked.list_at, Linked.HasLink, declared.links.Near.Near, declared.verified_wire.VerifiedWire.VerifiedWire}
-use Rattle.diag_known.specs.declared.{looks.Crossing.Crossing, looks.Row.Row, verified_wire.Support.Support}
+use Rattle.diag_known.specs.declared.verified_wire.Support.{Support}
 
 -- the crosspoint leads from the one wire to the other
 pub record IsBetween (m : Shape) (x u w : ℕ) : Type 0 where
@@ -59,49 +59,3 @@ pub record Founds (n m : KnownWires) (left rest : List Bool) (feet more : List (
 abbrev pub AreSettled : Kept → List Near → KnownWires → List Bool → List (Option Support) → ℕ → Type 0
 AreSettled k near known left feet n = (w x u : ℕ) → IsBefore known.steps n u → HasLink (list_at near u) x w → keeps_cross k x ≡ true →
     IsSettled left feet w u
-
--- a crosspoint, with its tap and its line
-pub record IsCrossing (m : Shape) (c : Crossing) : Type 0 where
-  pub up : IsBetween m c.cross.0 c.tap.0 c.line.0
-  pub down : IsBetween m c.cross.0 c.line.0 c.tap.0
-  pub tap : c.tap.0 < wires_of m
-  pub line : c.line.0 < wires_of m
-
--- crosspoints of one tap, one for each of some lines whose numbers follow each other
-pub record IsRow (m : Shape) (r : Row) : Type 0 where
-  pub at : (j : ℕ) → j < r.lines → r.first.cross.0 + j < crosses_of m
-  pub ends : (j : ℕ) → j < r.lines → ends_of m (r.first.cross.0 + j) ≡ (r.first.tap.0, r.first.line.0 + j)
-  pub tap : r.first.tap.0 < wires_of m
-  pub lines : (j : ℕ) → j < r.lines → r.first.line.0 + j < wires_of m
-  pub few : crosses_of m ≤ 268435456
-  pub few_wires : wires_of m ≤ 1310720
-
--- wires that stand
-pub record HasStood (m : Shape) (known : KnownWires) (stood : List Bool) : Type 0 where
-  pub len : length stood ≡ wires_of m
-  pub stand : (w : ℕ) → InSet stood w → HasWire known.steps w
-
--- where the crosspoint is kept and the wire at its one end stood before, that at its other end is settled
-pub record IsCrossSettled (k : Kept) (left : List Bool) (feet : List (Option Support)) (stood : List Bool) (x : ℕ) : Type 0 where
-  pub at : (u w : ℕ) → keeps_cross k x ≡ true → Ends (ends_of k.shape x) u w → InSet stood u → IsSettled left feet w u
-
--- .. at so many crosspoints from one on
-abbrev pub IsRowSettled : Kept → List Bool → List (Option Support) → List Bool → ℕ → ℕ → Type 0
-IsRowSettled k left feet stood x lines = (j : ℕ) → j < lines → IsCrossSettled k left feet stood (x + j)
-
--- .. in the first rows of a node
-abbrev pub AreRowsSettled : Kept → List Bool → List (Option Support) → List Bool → ℕ → ℕ → Type 0
-AreRowsSettled k left feet stood node taps = (i : ℕ) → i < taps →
-    IsRowSettled k left feet stood (first_cross_of k.shape node + i * lines_of k.shape node) (lines_of k.shape node)
-
--- .. in all of them
-abbrev pub IsNodeSettled : Kept → List Bool → List (Option Support) → List Bool → ℕ → Type 0
-IsNodeSettled k left feet stood node = AreRowsSettled k left feet stood node (taps_of k.shape node)
-
--- .. in the first nodes
-abbrev pub AreNodesSettled : Kept → List Bool → List (Option Support) → List Bool → ℕ → Type 0
-AreNodesSettled k left feet stood nodes = (node : ℕ) → node < nodes → IsNodeSettled k left feet stood node
-
--- wherever a kept crosspoint leads from a wire that stands, the one at its other end is settled
-pub record AreAllSettled (k : Kept) (known : KnownWires) (left : List Bool) (feet : List (Option Support)) : Type 0 where
-  pub at : (x u w : ℕ) → x < crosses_of k.shape → keeps_cross k x ≡ true → Ends (ends_of k.shape x) u w → HasWire known.steps u → IsSettled left feet w u

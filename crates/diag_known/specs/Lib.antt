@@ -8,6 +8,7 @@ pub mod Descents
 pub mod Ways
 pub mod Linked
 pub mod Grounds
+pub mod Around
 pub mod Ranks
 -- What is reached, what trials tell, and what marks stand for.
 pub mod Reaches

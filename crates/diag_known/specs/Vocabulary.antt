@@ -7,9 +7,8 @@ pub use Rattle.diag_known.specs.Gains.{Gets, IsWireBefore}
 pub use Rattle.diag_known.specs.Descents.{Descends, DescendsTo, Goes, IsPinAt, IsPinHere, Stays, StepsAlong, StepsDown}
 pub use Rattle.diag_known.specs.Ways.{AreFeetOf, AreWays, IsWay, ReachesAll}
 pub use Rattle.diag_known.specs.Linked.{AddsLink, AreLinked, AreLinks, AreLinksUpTo, HasLink, IsInField, Links, list_at}
-pub use Rattle.diag_known.specs.Grounds.{AreAllLinks, AreAllSettled, AreNodesSettled, AreRowsSettled, AreSettled, Founds, IsBetween}
-pub use Rattle.diag_known.specs.Grounds.{IsCrossSettled, IsCrossing, IsFootTo, IsGround, IsNodeSettled, IsRow, IsRowSettled, IsSettled}
-pub use Rattle.diag_known.specs.Grounds.{HasStood, foot_at}
+pub use Rattle.diag_known.specs.Grounds.{AreAllLinks, AreSettled, Founds, IsBetween, IsFootTo, IsGround, IsSettled, foot_at}
+pub use Rattle.diag_known.specs.Around.{AreLooked, AreLookedAcross, IsLookedAt, IsLookedFrom, across_at, across_of, ends_by}
 pub use Rattle.diag_known.specs.Ranks.{AreRanks, rank_in}
 pub use Rattle.diag_known.specs.Reaches.{AreBefore, AreTreeWalks, AreTrees, AreWalks, GoesBelow, GoesOn, GoesTo, Hangs, HangsAlong, HangsAt}
 pub use Rattle.diag_known.specs.Reaches.{HangsOn, HasTree, IsFrom, IsFromAt, IsOnWalk, IsReached, IsTie, IsTreeWalk, Leads, StayOn}
