@@ -2,8 +2,8 @@
 //! that came before it; and each two of them are kept apart.
 //!
 //! So any two known wires have routes from two pins without a common wire: the one that came later steps down to a foot at
-//! which the other doesn't stand, until two pins are reached. Which of some wires are known by kept crosspoints alone, over
-//! the links of the machine, is found without a load.
+//! which the other doesn't stand, until two pins are reached. Which of some wires are known by kept crosspoints alone is
+//! found around each wire in turn, without a load.
 //!
 //! Promised: what is known is so at every moment (`known`), and any two known wires have routes from two pins over known wires
 //! and kept crosspoints, without a common wire, no wire twice on either (`Known::routes`). `standing` makes no load: of wires
