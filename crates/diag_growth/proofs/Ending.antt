@@ -1,10 +1,10 @@
 -- When growth has come to its end, what is known is closed in the field.
-use Rattle.std.proofs.Common.{◌≡◌, ◌≢◌, ◌⊎◌, ℕ, ◌<◌, Bool, true, false, Some, None, Option, List, length, refl, sym, ◌∙◌, subst, inl, inr, slice_get}
-use Rattle.diag_growth.proofs.Vocabulary.{false≢true, slice_get_within, has_number, Shape, Kept, HoldsUntried, keeps_cross, IsGrown}
-use Rattle.diag_growth.proofs.Vocabulary.{AreTried, Grows, Field, Near, VerifiedWire, number_within, at_within, has_later}
+use Rattle.std.proofs.Common.{◌≡◌, ◌≢◌, ◌⊎◌, ℕ, ◌<◌, Bool, true, false, Some, None, Option, List, length, refl, sym, ◌∙◌, subst, inl, inr}
+use Rattle.diag_growth.proofs.Vocabulary.{false≢true, has_number, Shape, Kept, HoldsUntried, keeps_cross, IsGrown}
+use Rattle.diag_growth.proofs.Vocabulary.{AreTried, Grows, Field, VerifiedWire, number_within, at_within, has_later}
 use Rattle.machine_shape.specs.Vocabulary.{IsTree, HasMeetings, Ends, in_order, ends_of, crosses_of, pins_of, pin_wire, IsTap, IsLine, IsPort, tap_pin, tap_port, tap_child, tap_table}
 use Rattle.machine_meaning.specs.Vocabulary.{Faults, stuck_cross, IsClear, IsAlone, HasFeet, two}
-use Rattle.diag_known.specs.Vocabulary.{IsFieldOf, IsClosed, ClosedIf, GrowsIn, Links, AreLinks, KnownWires, IsBefore, HasWire, AreOutside, AreLost, IsFit, IsTried}
+use Rattle.diag_known.specs.Vocabulary.{IsFieldOf, IsClosed, ClosedIf, GrowsIn, IsInField, KnownWires, IsBefore, HasWire, AreOutside, AreLost, IsFit, IsTried}
 
 -- a crosspoint's two ends are different wires
 pub ends_apart : {m : Shape} → IsTree m → HasMeetings m → (x : ℕ) → x < crosses_of m → (ends_of m x).0 ≢ (ends_of m x).1
@@ -19,8 +19,8 @@ ends_apart {m} tree meetings x within same = no_line _ _ (meetings.tap x within)
 pub before_all : {ss : List VerifiedWire} {w : ℕ} → HasWire ss w → IsBefore ss (length ss) w
 before_all h = record { place = h.place; early = at_within h.at; at = h.at }
 
-module _ {told : Option Faults} {k : Kept} {near : List Near} {a : Field} {ss : List VerifiedWire} {barred now : List Bool} (is_field : IsFieldOf k.shape a) (tree : IsTree k.shape) (meetings : HasMeetings k.shape) (links : AreLinks k.shape a near)
-    (outside : AreOutside a.wires barred) (g : AreTried told k ss barred now) (grown : IsGrown told k near ss now (length ss))
+module _ {told : Option Faults} {k : Kept} {a : Field} {ss : List VerifiedWire} {barred now : List Bool} (is_field : IsFieldOf k.shape a) (tree : IsTree k.shape) (meetings : HasMeetings k.shape)
+    (outside : AreOutside a.wires barred) (g : AreTried told k ss barred now) (grown : IsGrown told k a ss now (length ss))
     (pins : (i : ℕ) → i < pins_of k.shape → HasWire ss (pin_wire k.shape i) ⊎ (has_number now (pin_wire k.shape i) ≡ true)) where
   -- a wire of the field that is barred, and fit, is known
   barred_known : {f : Faults} (w : ℕ) → told ≡ Some f → HoldsUntried k f → has_number a.wires w ≡ true → IsFit k.shape f ss w → has_number now w ≡ true → HasWire ss w
@@ -34,8 +34,8 @@ module _ {told : Option Faults} {k : Kept} {near : List Near} {a : Field} {ss : 
       by_bar (inl old_bar) = absurd (false≢true (sym (outside.free w on) ∙ old_bar))
       by_bar (inr t) = by_tried t
 
-  in_field : (x u w : ℕ) → has_number a.crosses x ≡ true → Ends (ends_of k.shape x) u w → Links near x u w
-  in_field x u w on at = links.whole w x u (record { within = cross_within x on; has = on; at = at })
+  in_field : (x u w : ℕ) → has_number a.crosses x ≡ true → Ends (ends_of k.shape x) u w → IsInField k.shape a x u w
+  in_field x u w on at = record { within = cross_within x on; has = on; at = at }
     where
       cross_within : (x : ℕ) → has_number a.crosses x ≡ true → x < crosses_of k.shape
       cross_within x on = subst (λ n. x < n) is_field.crosses (number_within a.crosses x on)

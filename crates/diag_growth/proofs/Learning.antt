@@ -1,5 +1,5 @@
 -- One more wire is known, or none.
-use Rattle.std.proofs.Common.{◌≡◌, ◌⊎◌, ◌==◌, ◌||◌, ℕ, Bool, true, false, Option, Some, List, [], ◌∷◌, length, refl, sym, ap, ◌∙◌, subst, inl, inr, arith, IsTrue, slice_set}
+use Rattle.std.proofs.Common.{◌≡◌, ◌⊎◌, ◌==◌, ◌||◌, ℕ, Bool, true, false, Option, Some, [], ◌∷◌, length, refl, sym, ap, ◌∙◌, subst, inl, inr, arith, IsTrue, slice_set}
 use Rattle.diag_growth.proofs.Vocabulary.{or_cases, or_left, nat_tests, has_number, Faults, Kept, IsMore, CanSettle, HasSettled, is_apart}
 use Rattle.diag_growth.proofs.Vocabulary.{IsLearnt, IsOneMore, IsParted, Marks, Offer, VerifiedWire, good_of, known_later, stands_later}
 use Rattle.diag_growth.proofs.Vocabulary.{learnt, get_last, has_later, offer_still, marks_later}

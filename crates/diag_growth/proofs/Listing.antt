@@ -1,5 +1,5 @@
 -- Lists that loops make, place by place.
-use Rattle.std.proofs.Common.{◌≡◌, ◌≢◌, ◌⊎◌, ℕ, ◌+◌, ◌<◌, true, false, Some, List, [], ◌∷◌, ◌++◌, length, sym, ap, ◌∙◌, inl, inr, arith, slice_get, slice_index_or, slice_set}
+use Rattle.std.proofs.Common.{◌≡◌, ◌⊎◌, ℕ, ◌+◌, ◌<◌, true, false, Some, List, [], ◌∷◌, ◌++◌, length, sym, ap, ◌∙◌, inl, inr, arith, slice_get, slice_index_or, slice_set}
 use Rattle.diag_growth.proofs.Vocabulary.{get_or-set_same, get_or-set_other, Wire, Pins, Walk, Support, InFirst, get_before, get_last}
 use Rattle.diag_growth.proofs.Vocabulary.{some_same, crosses_of, among, Kept, InSome, IsOn, IsParting, VerifiedWire, false≢true}
 use native.Mathlib.Decide.{ℕ_discrete}

@@ -1,5 +1,5 @@
 -- A place where a table can be tested is a seat, and a seated table has one.
-use Rattle.std.proofs.Common.{◌≡◌, ◌≢◌, ◌⊎◌, ℕ, zero, suc, ◌+◌, ◌<◌, Bool, true, false, Some, List, [], ◌∷◌, ◌++◌, map, refl, sym, ap, ◌∙◌, subst, inl, inr, arith, slice_get, ◌==◌, ◌||◌}
+use Rattle.std.proofs.Common.{◌≡◌, ◌≢◌, ◌⊎◌, ℕ, zero, suc, ◌<◌, Bool, true, false, Some, List, [], ◌∷◌, ◌++◌, map, refl, sym, ap, ◌∙◌, subst, inl, inr, arith, slice_get, ◌==◌, ◌||◌}
 use Rattle.diag_growth.proofs.Vocabulary.{nat_tests, false≢true, Shape, Table, StandsWithout, IsSeated, among, Walk, IsRoute, Extends, Kept}
 use Rattle.diag_growth.proofs.Vocabulary.{keeps_cross, keeps_wire, untried, keeps_pair, IsPlaceFor, IsMeeting, IsPlaceAt, IsPlace}
 use Rattle.diag_growth.proofs.Vocabulary.{IsWithout, VerifiedWire, untried_two, Arm, Seat, near_wires, far_wires, IsKeptBetween, IsSeat}

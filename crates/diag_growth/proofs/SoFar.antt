@@ -1,25 +1,25 @@
 -- What tests over the rig have found, and what they took, so far.
-use Rattle.diag_growth.proofs.Vocabulary.{◌≡◌, ℕ, ◌+◌, ◌<◌, ◌≤◌, Some, List, slice_get, RigState, ForEach, Kept, Advances, KeepsTrial}
-use Rattle.diag_growth.proofs.Vocabulary.{Field, Near, Support, VerifiedWire, Marks, Offer, AreAllMarks, AreTried, Grows, IsLinking}
+use Rattle.diag_growth.proofs.Vocabulary.{◌≡◌, ℕ, ◌<◌, Some, List, slice_get, RigState, ForEach, Kept, Advances, KeepsTrial}
+use Rattle.diag_growth.proofs.Vocabulary.{Field, Support, VerifiedWire, Marks, Offer, AreAllMarks, AreTried, Grows, IsOfField}
 use Rattle.diag_known.specs.Vocabulary.{KnownWires, AreMarks, AreMarksOver, Spends, SpendsFew, SpendsOn, AreLost}
 use Rattle.diag_growth.proofs.Circling.{HasSpread, IsGrowing}
 
 -- the first n pins were tried
-pub record HasGrown (first now : RigState) (j k : Kept) (a : Field) (near : List Near) (old known : KnownWires) (marks : Marks) (n : ℕ) : Type 0 where
+pub record HasGrown (first now : RigState) (j k : Kept) (a : Field) (old known : KnownWires) (marks : Marks) (n : ℕ) : Type 0 where
   pub advances : Advances first now j k
   pub start : Marks
-  pub spread : HasSpread j k a near old known start marks first.loads now.loads n
-  pub growing_each : ForEach now (λ told. IsGrowing told j k near known start marks first.loads now.loads)
+  pub spread : HasSpread j k a old known start marks first.loads now.loads n
+  pub growing_each : ForEach now (λ told. IsGrowing told j k a known start marks first.loads now.loads)
 
 -- known wires were looked at, and something else holds
-pub record HasLooked (first now : RigState) (j k : Kept) (near : List Near) (old known : KnownWires) (from new : Marks) (More : Type 0) : Type 0 where
+pub record HasLooked (first now : RigState) (j k : Kept) (a : Field) (old known : KnownWires) (from new : Marks) (More : Type 0) : Type 0 where
   pub advances : Advances first now j k
   pub grows : Grows k old known from.barred new.barred
   pub marks : AreMarksOver k.shape new
-  pub spends : Spends j (IsLinking near) from new first.loads now.loads
-  pub tried_each : ForEach now (λ told. AreAllMarks told j near old.steps from → AreTried told k known.steps from.barred new.barred)
-  pub marks_each : ForEach now (λ told. AreAllMarks told j near old.steps from → AreAllMarks told k near known.steps new)
-  pub spends_each : ForEach now (λ told. AreAllMarks told j near old.steps from → SpendsFew told j from new first.loads now.loads)
+  pub spends : Spends j (IsOfField a) from new first.loads now.loads
+  pub tried_each : ForEach now (λ told. AreAllMarks told j a old.steps from → AreTried told k known.steps from.barred new.barred)
+  pub marks_each : ForEach now (λ told. AreAllMarks told j a old.steps from → AreAllMarks told k a known.steps new)
+  pub spends_each : ForEach now (λ told. AreAllMarks told j a old.steps from → SpendsFew told j from new first.loads now.loads)
   pub also : More
 
 -- the first n other crosspoints of an offer were tried

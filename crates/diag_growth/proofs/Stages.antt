@@ -1,7 +1,7 @@
 -- Growth, one part after the other.
-use Rattle.std.proofs.Common.{◌≡◌, ◌≢◌, ◌⊎◌, ℕ, ◌+◌, ◌<◌, ◌≤◌, Bool, true, false, Some, Option, List, [], ◌∷◌, ◌++◌, length, refl, sym, ap, ◌∙◌, subst, inl, inr, arith, append_assoc, slice_get, slice_set}
+use Rattle.std.proofs.Common.{◌≡◌, ◌⊎◌, ℕ, ◌<◌, ◌≤◌, Bool, true, false, Some, Option, List, [], ◌∷◌, ◌++◌, length, refl, sym, ap, ◌∙◌, subst, inl, inr, arith, append_assoc, slice_get, slice_set}
 use Rattle.diag_growth.proofs.Vocabulary.{false≢true, has_number, Faults, Kept, IsMore, IsGrown, IsOneMore, IsLooked, StayBarred, AreTried}
-use Rattle.diag_growth.proofs.Vocabulary.{Grows, Near, VerifiedWire, set_only, set_stays, tried_later, known_later, get_pushed}
+use Rattle.diag_growth.proofs.Vocabulary.{Grows, Field, VerifiedWire, set_only, set_stays, tried_later, known_later, get_pushed}
 use Rattle.std.proofs.lemmas.List.{append-nil, length-append, length-set}
 use Rattle.diag_known.specs.Vocabulary.{IsTried, KnownWires, HasWire, IsKnown, KnowsAll, BarsAtMost}
 use Rattle.diag_growth.proofs.Growing.{grown_later, looked_later}
@@ -65,11 +65,11 @@ grows_then {k} {l} {a} {b} {c} {x} {y} {z} g h = record {
     within_first w (inr off) = inr (free_before g.stays w off.0, subst (λ n. w < n) g.len off.1)
 
 -- what was found stays found
-pub grown_on : {told : Option Faults} {k l : Kept} {near : List Near} {a b : KnownWires} {x y : List Bool} {n : ℕ} → IsMore k l → n ≤ length a.steps → Grows l a b x y → IsGrown told k near a.steps x n → IsGrown told l near b.steps y n
-grown_on {told} {k} {l} {near} {a} {b} {x} {y} {n} more le g p = subst (λ ss. IsGrown told l near ss y n) (sym g.steps) (grown_later g.more more le g.stays p)
+pub grown_on : {told : Option Faults} {k l : Kept} {field : Field} {a b : KnownWires} {x y : List Bool} {n : ℕ} → IsMore k l → n ≤ length a.steps → Grows l a b x y → IsGrown told k field a.steps x n → IsGrown told l field b.steps y n
+grown_on {told} {k} {l} {field} {a} {b} {x} {y} {n} more le g p = subst (λ ss. IsGrown told l field ss y n) (sym g.steps) (grown_later g.more more le g.stays p)
 
-pub looked_on : {told : Option Faults} {k l : Kept} {near : List Near} {a b : KnownWires} {x y : List Bool} {n c w : ℕ} → IsMore k l → n ≤ length a.steps → Grows l a b x y → IsLooked told k near a.steps x n c w → IsLooked told l near b.steps y n c w
-looked_on {told} {k} {l} {near} {a} {b} {x} {y} {n} {c} {w} more le g p = subst (λ ss. IsLooked told l near ss y n c w) (sym g.steps) (looked_later g.more more le g.stays p)
+pub looked_on : {told : Option Faults} {k l : Kept} {field : Field} {a b : KnownWires} {x y : List Bool} {n c w : ℕ} → IsMore k l → n ≤ length a.steps → Grows l a b x y → IsLooked told k field a.steps x n c w → IsLooked told l field b.steps y n c w
+looked_on {told} {k} {l} {field} {a} {b} {x} {y} {n} {c} {w} more le g p = subst (λ ss. IsLooked told l field ss y n c w) (sym g.steps) (looked_later g.more more le g.stays p)
 
 pub longer : {k : Kept} {a b : KnownWires} {x y : List Bool} → Grows k a b x y → length a.steps ≤ length b.steps
 longer {a = a} g = let e = ap length g.steps ∙ length-append a.steps g.more in omega (arith, e)

@@ -1,9 +1,9 @@
 -- The loads of growth in a field.
 use Rattle.std.proofs.Common.{◌≡◌, ◌⊎◌, ℕ, ◌+◌, ◌*◌, ◌-◌, ◌<◌, ◌≤◌, Bool, true, false, Option, List, refl, sym, ap, ◌∙◌, subst, inl, inr, arith, not, ◌&&◌}
 use Rattle.diag_growth.proofs.Vocabulary.{false≢true, has_number, size_of, Shape, pin_wire, pins_of, wires_of, crosses_of, Faults, Kept}
-use Rattle.diag_growth.proofs.Vocabulary.{keeps_cross, IsLinking, Field, Near, Marks, first_of, second_of, third_of}
+use Rattle.diag_growth.proofs.Vocabulary.{keeps_cross, IsOfField, Field, Marks, first_of, second_of, third_of}
 use Rattle.machine_shape.proofs.Totals.{pins_are}
-use Rattle.diag_known.specs.Vocabulary.{IsFieldOf, TakesFew, fresh, how_many, pins_in, AreLinks, AreOutside, barred_pins, is_spent, Spends, SpendsFew}
+use Rattle.diag_known.specs.Vocabulary.{IsFieldOf, TakesFew, fresh, how_many, pins_in, AreOutside, barred_pins, is_spent, Spends, SpendsFew}
 use Rattle.diag_known.proofs.Counting.{many_all, many_both, many_either, many_long, many_more, many_size, many_up}
 
 -- the pins of the machine are wires
@@ -25,24 +25,21 @@ pins_long m bits = subst (λ n. how_many (has_number bits) (pins_of m) ≤ how_m
 both_so : (a b : Bool) → a ≡ true → b ≡ false → (a && not b) ≡ true
 both_so a b e f = rw (e, f) refl
 
-module _ {k : Kept} {a : Field} {near : List Near} {s t : Marks} {before after : ℕ} (field : IsFieldOf k.shape a) (links : AreLinks k.shape a near) (outside : AreOutside a.wires s.barred)
-    (unspent : (x : ℕ) → is_spent s x ≡ true → ⊥) (spends : Spends k (IsLinking near) s t before after) where
+module _ {k : Kept} {a : Field} {s t : Marks} {before after : ℕ} (field : IsFieldOf k.shape a) (outside : AreOutside a.wires s.barred)
+    (unspent : (x : ℕ) → is_spent s x ≡ true → ⊥) (spends : Spends k (IsOfField a) s t before after) where
   abbrev c : ℕ
   c = crosses_of k.shape
 
   abbrev w : ℕ
   w = wires_of k.shape
 
-  in_field : (x : ℕ) → IsLinking near x → has_number a.crosses x ≡ true
-  in_field x (u, v, p) = subst (λ y. has_number a.crosses y ≡ true) p.cross (links.right v p.place p.link p.here).has
-
   spent_few : how_many (is_spent t) c ≤ fresh k a
   spent_few = subst (λ n. how_many (is_spent t) c ≤ how_many (λ x. has_number a.crosses x && not (keeps_cross k x)) n) (sym field.crosses)
       (many_more (is_spent t) (λ x. has_number a.crosses x && not (keeps_cross k x)) c (λ x less on. both_so (has_number a.crosses x) (keeps_cross k x) (by_old x (spends.only x on)) (by_fresh x (spends.fresh x on))))
     where
-      by_old : (x : ℕ) → (is_spent s x ≡ true) ⊎ IsLinking near x → has_number a.crosses x ≡ true
+      by_old : (x : ℕ) → (is_spent s x ≡ true) ⊎ IsOfField a x → has_number a.crosses x ≡ true
       by_old x (inl e) = absurd (unspent x e)
-      by_old x (inr h) = in_field x h
+      by_old x (inr h) = h
 
       by_fresh : (x : ℕ) → (is_spent s x ≡ true) ⊎ (keeps_cross k x ≡ false) → keeps_cross k x ≡ false
       by_fresh x (inl e) = absurd (unspent x e)

@@ -29,20 +29,18 @@ pub use Rattle.diag_evidence.proofs.Keeping.{untried_wires}
 pub use Rattle.diag_evidence.proofs.KeptLemmas.{more_itself}
 pub use Rattle.diag_evidence.proofs.Lists.{grown, laid_cases, or_first, or_third, route_passes}
 pub use Rattle.diag_known.specs.declared.field.Field.{Field}
-pub use Rattle.diag_known.specs.declared.links.Near.{Near}
 pub use Rattle.diag_known.specs.declared.marks.Marks.{Marks}
 pub use Rattle.diag_known.specs.declared.offers.Offer.{Offer}
 pub use Rattle.diag_known.specs.declared.verified_wire.Support.{Support}
 pub use Rattle.diag_known.specs.declared.verified_wire.VerifiedWire.{VerifiedWire}
-pub use Rattle.diag_known.specs.Vocabulary.{AreLinked, AreLinks, AreWays, HasWire, InSet, InSome, IsAt, IsBad, IsBefore, IsFaulty}
-pub use Rattle.diag_known.specs.Vocabulary.{IsFieldOf, IsKeptCrossOf, IsKnown, IsLinkTo, IsLost, IsOn, IsSecondMark, KnownWires, KnowsAll}
-pub use Rattle.diag_known.specs.Vocabulary.{barred, how_many, list_at, lost, on_pin}
+pub use Rattle.diag_known.specs.Vocabulary.{AreLinksOf, AreWays, HasWire, InSet, InSome, IsAt, IsBad, IsBefore, IsFaulty}
+pub use Rattle.diag_known.specs.Vocabulary.{IsFieldOf, IsInField, IsKeptCrossOf, IsKnown, IsLinkTo, IsLost, IsOn, IsSecondMark, KnownWires, KnowsAll}
+pub use Rattle.diag_known.specs.Vocabulary.{barred, how_many, lost, on_pin}
 pub use Rattle.diag_known.proofs.Adding.{InFirst, all_numbers}
 pub use Rattle.diag_known.proofs.Apart.{good_of, known_apart}
 pub use Rattle.diag_known.proofs.Counting.{many_all, many_less, many_more, many_so, none_has, number_within, set_has, set_only, set_stays}
 pub use Rattle.diag_known.proofs.Getting.{at_index}
 pub use Rattle.diag_known.proofs.Later.{all_still, known_later, learnt, stands_later, ways_later}
-pub use Rattle.diag_known.proofs.Linking.{linked_of, links_same}
 pub use Rattle.diag_known.proofs.Losing.{kept_later, lost_later, lost_turned, tried_later}
 pub use Rattle.diag_known.proofs.Marking.{by_three, few_barred, few_between, few_none, few_then, first_of, second_of, spends_barred}
 pub use Rattle.diag_known.proofs.Marking.{spends_between, spends_none, spends_then, takes_three, takes_two, third_of}
@@ -59,7 +57,7 @@ pub use Rattle.diag_growth.specs.declared.seat.Seat.{Seat}
 pub use Rattle.diag_growth.specs.declared.seats.Out.{Out}
 pub use Rattle.diag_growth.specs.Choices.{AreInputArms, AreOuts, IsTold}
 pub use Rattle.diag_growth.specs.Grown.{IsGrown, IsLearnt, IsOneMore}
-pub use Rattle.diag_growth.specs.Looks.{AreAllMarks, AreEarlierUpTo, AreTried, Grows, IsLinking, IsLooked, StayBarred}
+pub use Rattle.diag_growth.specs.Looks.{AreAllMarks, AreEarlierUpTo, AreTried, Grows, IsOfField, IsLooked, StayBarred}
 pub use Rattle.diag_growth.specs.Partings.{AreLeft, IsApartBeside, IsListed, IsParted, IsParting, LeavesAt}
 pub use Rattle.diag_growth.specs.Seating.{AreAllWithout, AreArmsTo, IsArmTo, IsFarPort, IsFreeArm, IsMeeting, IsPlace, IsPlaceAt}
 pub use Rattle.diag_growth.specs.Seating.{IsPlaceFor, IsWithout, PutsOutside}

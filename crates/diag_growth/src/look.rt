@@ -1,19 +1,19 @@
-//! A look at a known wire: over each link from it, to one that came before it, or that isn't known.
+//! A look at a known wire: over each link from it in the field, to one that came before it, or that isn't known.
 ghost use Rattle.std.specs.Prelude.{◌≡◌, ◌<◌, ◌+◌, false, Some, IfOk, OnOk, IsErrOf, length};
 ghost use Rattle.base_bits.specs.Numbers.{has_number};
 ghost use Rattle.base_io.specs.Counts.{Rose};
 ghost use Rattle.machine_shape.specs.Shape.{wires_of};
 ghost use Rattle.rig.specs.Rig.{ForEach, shape_of};
 ghost use Rattle.diag_evidence.specs.Kept.{Advances, KeepsTrial};
-ghost use Rattle.diag_known.specs.Vocabulary.{AreLinked, IsKnown, KnowsAll, IsBefore, HasWire, AreMarks, AreMarksOver, JoinsAtMost};
+ghost use Rattle.diag_known.specs.Vocabulary.{IsFieldOf, IsKnown, KnowsAll, IsBefore, HasWire, AreMarks, AreMarksOver, JoinsAtMost};
 ghost use Rattle.diag_known.specs.Vocabulary.{IsKeptUnlessStuck, IsOffer, Spends, SpendsFew};
 ghost use Rattle.diag_growth.specs.Grown.{IsGrown};
-ghost use Rattle.diag_growth.specs.Looks.{IsLook, IsLookAt, IsLinking, IsOfferOf, IsLookedOver, AreEarlier, AreAllMarks, AreTried};
+ghost use Rattle.diag_growth.specs.Looks.{IsLook, IsLookAt, IsOfField, IsOfferOf, IsLookedOver, AreEarlier, AreAllMarks, AreTried};
 ghost use Rattle.diag_growth.specs.Looks.{TakesEarlier, Grows};
 
 use crate::learn::try_offer;
 use diag_evidence::Facts;
-use diag_known::{Known, Marks, Near, Offer, Support, link_at, link_count, toggle_known};
+use diag_known::{Field, Known, Marks, Offer, Support, links_of, toggle_known};
 use machine_shape::{Wire, the_numbering_is_sound};
 use rig::{Rig, RigFail};
 use std::alloc::AllocError;
@@ -52,35 +52,34 @@ fn put_earlier(
 fn earlier_links(
     known: &Known,
     facts: &Facts,
-    near: &Vec<Near>,
+    field: &Field,
     look: Look,
 ) -> Result<Vec<Support>, AllocError>
     requires known { IsKnown facts.now known.now }
-    requires links { AreLinked facts.now.shape near.now.items }
-    ensures { IfOk result (λ others. AreEarlier near.now.items known.now.steps look.place look.link.wire.0 others.items) }
+    requires field { IsFieldOf facts.now.shape field.now }
+    requires other { look.link.wire.0 < wires_of facts.now.shape }
+    ensures { IfOk result (λ others. AreEarlier facts.now.shape field.now known.now.steps look.place look.link.wire.0 others.items) }
 {
     the_numbering_is_sound();
+    let links = links_of(known.alloc(), &facts.shape(), field, look.link.wire)?;
     let mut others = Vec::new(known.alloc());
-    'links: for j in 0..link_count(near, look.link.wire) {
-        let Some(link) = link_at(near, look.link.wire, j) else {
-            continue;
-        };
-        put_earlier(&mut others, known, facts, look.place, link)?;
+    'links: for j in 0..links.len() {
+        put_earlier(&mut others, known, facts, look.place, links[j])?;
     }
     Ok(others)
 }
 
 // The offer of a look to a wire that isn't known.
-fn offer_of(known: &Known, facts: &Facts, near: &Vec<Near>, look: Look) -> Result<Offer, AllocError>
+fn offer_of(known: &Known, facts: &Facts, field: &Field, look: Look) -> Result<Offer, AllocError>
     requires known { IsKnown facts.now known.now }
-    requires links { AreLinked facts.now.shape near.now.items }
-    requires look { IsLook near.now.items known.now.steps look }
+    requires field { IsFieldOf facts.now.shape field.now }
+    requires look { IsLook facts.now.shape field.now known.now.steps look }
     requires new { ¬ HasWire known.now.steps look.link.wire.0 }
     ensures offer { IfOk result (IsOffer facts.now.shape known.now.steps) }
-    ensures of_look { IfOk result (IsOfferOf near.now.items known.now.steps look) }
+    ensures of_look { IfOk result (IsOfferOf facts.now.shape field.now known.now.steps look) }
 {
     the_numbering_is_sound();
-    let others = earlier_links(known, facts, near, look)?;
+    let others = earlier_links(known, facts, field, look)?;
     Ok(Offer {
         wire: look.link.wire,
         foot: Support {
@@ -137,28 +136,28 @@ fn look_new(
     rig: &mut Box<dyn Rig>,
     facts: &mut Facts,
     marks: &mut Marks,
-    near: &Vec<Near>,
+    field: &Field,
     look: Look,
 ) -> Result<(), RigFail>
     requires attached { shape_of (rig_state rig.old) ≡ Some facts.old.shape }
     requires known { IsKnown facts.old known.old }
     requires all { KnowsAll facts.old known.old.steps }
-    requires links { AreLinked facts.old.shape near.now.items }
-    requires look { IsLook near.now.items known.old.steps look }
+    requires field { IsFieldOf facts.old.shape field.now }
+    requires look { IsLook facts.old.shape field.now known.old.steps look }
     requires marks { AreMarksOver facts.old.shape marks.old }
     requires new { ¬ HasWire known.old.steps look.link.wire.0 }
     requires free { has_number marks.old.barred look.link.wire.0 ≡ false }
     ensures grows { Grows facts.new known.old known.new marks.old.barred marks.new.barred }
-    ensures tried_each { OnOk result (ForEach (rig_state rig.new) (λ told. AreAllMarks told facts.old near.now.items known.old.steps
+    ensures tried_each { OnOk result (ForEach (rig_state rig.new) (λ told. AreAllMarks told facts.old field.now known.old.steps
         marks.old → AreTried told facts.new known.new.steps marks.old.barred marks.new.barred)) }
-    ensures looked_each { OnOk result (ForEach (rig_state rig.new) (λ told. AreAllMarks told facts.old near.now.items known.old.steps
-        marks.old → IsLookedOver told facts.new near.now.items known.new.steps marks.new.barred look)) }
+    ensures looked_each { OnOk result (ForEach (rig_state rig.new) (λ told. AreAllMarks told facts.old field.now known.old.steps
+        marks.old → IsLookedOver told facts.new field.now known.new.steps marks.new.barred look)) }
     ensures marks { AreMarksOver facts.new.shape marks.new }
-    ensures marks_each { OnOk result (ForEach (rig_state rig.new) (λ told. AreAllMarks told facts.old near.now.items known.old.steps
-        marks.old → AreAllMarks told facts.new near.now.items known.new.steps marks.new)) }
-    ensures spends { Spends facts.old (IsLinking near.now.items) marks.old marks.new (rig_state rig.old).loads
+    ensures marks_each { OnOk result (ForEach (rig_state rig.new) (λ told. AreAllMarks told facts.old field.now known.old.steps
+        marks.old → AreAllMarks told facts.new field.now known.new.steps marks.new)) }
+    ensures spends { Spends facts.old (IsOfField field.now) marks.old marks.new (rig_state rig.old).loads
         (rig_state rig.new).loads }
-    ensures spends_each { ForEach (rig_state rig.new) (λ told. AreAllMarks told facts.old near.now.items known.old.steps marks.old →
+    ensures spends_each { ForEach (rig_state rig.new) (λ told. AreAllMarks told facts.old field.now known.old.steps marks.old →
         SpendsFew told facts.old marks.old marks.new (rig_state rig.old).loads (rig_state rig.new).loads) }
     ensures advances { Advances (rig_state rig.old) (rig_state rig.new) facts.old facts.new }
     ensures cause { IsErrOf result RigFail.Failed → Rose (rig_state rig.old).failures (rig_state rig.new).failures }
@@ -167,7 +166,7 @@ fn look_new(
     if marks.offered.has(look.link.cross.0) {
         return Ok(());
     }
-    let Ok(offer) = offer_of(known, facts, near, look) else {
+    let Ok(offer) = offer_of(known, facts, field, look) else {
         return Err(RigFail::Memory);
     };
     try_offer(known, rig, facts, marks, &offer)
@@ -179,26 +178,26 @@ fn look_over(
     rig: &mut Box<dyn Rig>,
     facts: &mut Facts,
     marks: &mut Marks,
-    near: &Vec<Near>,
+    field: &Field,
     look: Look,
 ) -> Result<(), RigFail>
     requires attached { shape_of (rig_state rig.old) ≡ Some facts.old.shape }
     requires known { IsKnown facts.old known.old }
     requires all { KnowsAll facts.old known.old.steps }
-    requires links { AreLinked facts.old.shape near.now.items }
-    requires look { IsLook near.now.items known.old.steps look }
+    requires field { IsFieldOf facts.old.shape field.now }
+    requires look { IsLook facts.old.shape field.now known.old.steps look }
     requires marks { AreMarksOver facts.old.shape marks.old }
     ensures grows { Grows facts.new known.old known.new marks.old.barred marks.new.barred }
-    ensures tried_each { OnOk result (ForEach (rig_state rig.new) (λ told. AreAllMarks told facts.old near.now.items known.old.steps
+    ensures tried_each { OnOk result (ForEach (rig_state rig.new) (λ told. AreAllMarks told facts.old field.now known.old.steps
         marks.old → AreTried told facts.new known.new.steps marks.old.barred marks.new.barred)) }
-    ensures looked_each { OnOk result (ForEach (rig_state rig.new) (λ told. AreAllMarks told facts.old near.now.items known.old.steps
-        marks.old → IsLookedOver told facts.new near.now.items known.new.steps marks.new.barred look)) }
+    ensures looked_each { OnOk result (ForEach (rig_state rig.new) (λ told. AreAllMarks told facts.old field.now known.old.steps
+        marks.old → IsLookedOver told facts.new field.now known.new.steps marks.new.barred look)) }
     ensures marks { AreMarksOver facts.new.shape marks.new }
-    ensures marks_each { OnOk result (ForEach (rig_state rig.new) (λ told. AreAllMarks told facts.old near.now.items known.old.steps
-        marks.old → AreAllMarks told facts.new near.now.items known.new.steps marks.new)) }
-    ensures spends { Spends facts.old (IsLinking near.now.items) marks.old marks.new (rig_state rig.old).loads
+    ensures marks_each { OnOk result (ForEach (rig_state rig.new) (λ told. AreAllMarks told facts.old field.now known.old.steps
+        marks.old → AreAllMarks told facts.new field.now known.new.steps marks.new)) }
+    ensures spends { Spends facts.old (IsOfField field.now) marks.old marks.new (rig_state rig.old).loads
         (rig_state rig.new).loads }
-    ensures spends_each { ForEach (rig_state rig.new) (λ told. AreAllMarks told facts.old near.now.items known.old.steps marks.old →
+    ensures spends_each { ForEach (rig_state rig.new) (λ told. AreAllMarks told facts.old field.now known.old.steps marks.old →
         SpendsFew told facts.old marks.old marks.new (rig_state rig.old).loads (rig_state rig.new).loads) }
     ensures advances { Advances (rig_state rig.old) (rig_state rig.new) facts.old facts.new }
     ensures cause { IsErrOf result RigFail.Failed → Rose (rig_state rig.old).failures (rig_state rig.new).failures }
@@ -208,7 +207,7 @@ fn look_over(
         if marks.barred.has(look.link.wire.0) {
             return Ok(());
         }
-        return look_new(known, rig, facts, marks, near, look);
+        return look_new(known, rig, facts, marks, field, look);
     };
     if other >= look.place {
         return Ok(());
@@ -222,37 +221,42 @@ pub(crate) fn look_at(
     rig: &mut Box<dyn Rig>,
     facts: &mut Facts,
     marks: &mut Marks,
-    near: &Vec<Near>,
+    field: &Field,
     place: usize,
 ) -> Result<(), RigFail>
     requires attached { shape_of (rig_state rig.old) ≡ Some facts.old.shape }
     requires known { IsKnown facts.old known.old }
     requires all { KnowsAll facts.old known.old.steps }
-    requires links { AreLinked facts.old.shape near.now.items }
+    requires field { IsFieldOf facts.old.shape field.now }
     requires place { place < length known.old.steps }
     requires marks { AreMarksOver facts.old.shape marks.old }
     ensures grows { Grows facts.new known.old known.new marks.old.barred marks.new.barred }
-    ensures tried_each { OnOk result (ForEach (rig_state rig.new) (λ told. AreAllMarks told facts.old near.now.items known.old.steps
+    ensures tried_each { OnOk result (ForEach (rig_state rig.new) (λ told. AreAllMarks told facts.old field.now known.old.steps
         marks.old → AreTried told facts.new known.new.steps marks.old.barred marks.new.barred)) }
-    ensures grown_each { OnOk result (ForEach (rig_state rig.new) (λ told. AreAllMarks told facts.old near.now.items known.old.steps
-        marks.old → IsGrown told facts.old near.now.items known.old.steps marks.old.barred place → IsGrown told facts.new near.now.items
+    ensures grown_each { OnOk result (ForEach (rig_state rig.new) (λ told. AreAllMarks told facts.old field.now known.old.steps
+        marks.old → IsGrown told facts.old field.now known.old.steps marks.old.barred place → IsGrown told facts.new field.now
         known.new.steps marks.new.barred (place + 1))) }
     ensures marks { AreMarksOver facts.new.shape marks.new }
-    ensures marks_each { OnOk result (ForEach (rig_state rig.new) (λ told. AreAllMarks told facts.old near.now.items known.old.steps
-        marks.old → AreAllMarks told facts.new near.now.items known.new.steps marks.new)) }
-    ensures spends { Spends facts.old (IsLinking near.now.items) marks.old marks.new (rig_state rig.old).loads
+    ensures marks_each { OnOk result (ForEach (rig_state rig.new) (λ told. AreAllMarks told facts.old field.now known.old.steps
+        marks.old → AreAllMarks told facts.new field.now known.new.steps marks.new)) }
+    ensures spends { Spends facts.old (IsOfField field.now) marks.old marks.new (rig_state rig.old).loads
         (rig_state rig.new).loads }
-    ensures spends_each { ForEach (rig_state rig.new) (λ told. AreAllMarks told facts.old near.now.items known.old.steps marks.old →
+    ensures spends_each { ForEach (rig_state rig.new) (λ told. AreAllMarks told facts.old field.now known.old.steps marks.old →
         SpendsFew told facts.old marks.old marks.new (rig_state rig.old).loads (rig_state rig.new).loads) }
     ensures advances { Advances (rig_state rig.old) (rig_state rig.new) facts.old facts.new }
     ensures cause { IsErrOf result RigFail.Failed → Rose (rig_state rig.old).failures (rig_state rig.new).failures }
 {
     let wire = known.wire_at(place);
-    'links: for j in 0..link_count(near, wire) {
-        let Some(link) = link_at(near, wire, j) else {
-            continue;
+    let Ok(links) = links_of(known.alloc(), &facts.shape(), field, wire) else {
+        return Err(RigFail::Memory);
+    };
+    'links: for j in 0..links.len() {
+        let look = Look {
+            place,
+            wire,
+            link: links[j],
         };
-        look_over(known, rig, facts, marks, near, Look { place, wire, link })?;
+        look_over(known, rig, facts, marks, field, look)?;
     }
     Ok(())
 }

@@ -5,17 +5,17 @@ ghost use Rattle.base_io.specs.Counts.{Rose};
 ghost use Rattle.machine_shape.specs.Shape.{pins_of, pin_wire};
 ghost use Rattle.rig.specs.Rig.{ForEach, shape_of};
 ghost use Rattle.diag_evidence.specs.Kept.{Advances};
-ghost use Rattle.diag_known.specs.Vocabulary.{IsFieldOf, ClosedIf, GrowsIn, TakesFew, fresh, pins_in, AreLinked, IsKnown, KnowsAll};
+ghost use Rattle.diag_known.specs.Vocabulary.{IsFieldOf, ClosedIf, GrowsIn, TakesFew, fresh, pins_in, IsKnown, KnowsAll};
 ghost use Rattle.diag_known.specs.Vocabulary.{AreMarksOver, HasWire, Spends, SpendsFew};
 ghost use Rattle.diag_growth.specs.Grown.{IsGrown};
-ghost use Rattle.diag_growth.specs.Looks.{AreAllMarks, AreTried, Grows, IsLinking};
+ghost use Rattle.diag_growth.specs.Looks.{AreAllMarks, AreTried, Grows, IsOfField};
 
 use crate::complete::is_complete;
 use crate::learn::try_pin;
 use crate::look::look_at;
 use crate::rest::rest_of;
 use diag_evidence::Facts;
-use diag_known::{Field, Known, Marks, Near, links_of};
+use diag_known::{Field, Known, Marks};
 use machine_shape::{Pin, the_crosspoints_are_sound, the_numbering_is_sound};
 use rig::{Rig, RigFail};
 
@@ -25,34 +25,34 @@ fn look_on(
     rig: &mut Box<dyn Rig>,
     facts: &mut Facts,
     marks: &mut Marks,
-    near: &Vec<Near>,
+    field: &Field,
     from: usize,
 ) -> Result<(), RigFail>
     requires attached { shape_of (rig_state rig.old) ≡ Some facts.old.shape }
     requires known { IsKnown facts.old known.old }
     requires all { KnowsAll facts.old known.old.steps }
-    requires links { AreLinked facts.old.shape near.now.items }
+    requires field { IsFieldOf facts.old.shape field.now }
     requires marks { AreMarksOver facts.old.shape marks.old }
     requires from { from ≤ length known.old.steps }
     ensures grows { Grows facts.new known.old known.new marks.old.barred marks.new.barred }
-    ensures tried_each { OnOk result (ForEach (rig_state rig.new) (λ told. AreAllMarks told facts.old near.now.items known.old.steps
+    ensures tried_each { OnOk result (ForEach (rig_state rig.new) (λ told. AreAllMarks told facts.old field.now known.old.steps
         marks.old → AreTried told facts.new known.new.steps marks.old.barred marks.new.barred)) }
-    ensures grown_each { OnOk result (ForEach (rig_state rig.new) (λ told. AreAllMarks told facts.old near.now.items known.old.steps
-        marks.old → IsGrown told facts.old near.now.items known.old.steps marks.old.barred from → IsGrown told facts.new near.now.items
+    ensures grown_each { OnOk result (ForEach (rig_state rig.new) (λ told. AreAllMarks told facts.old field.now known.old.steps
+        marks.old → IsGrown told facts.old field.now known.old.steps marks.old.barred from → IsGrown told facts.new field.now
         known.new.steps marks.new.barred (length known.new.steps))) }
     ensures marks { AreMarksOver facts.new.shape marks.new }
-    ensures marks_each { OnOk result (ForEach (rig_state rig.new) (λ told. AreAllMarks told facts.old near.now.items known.old.steps
-        marks.old → AreAllMarks told facts.new near.now.items known.new.steps marks.new)) }
-    ensures spends { Spends facts.old (IsLinking near.now.items) marks.old marks.new (rig_state rig.old).loads
+    ensures marks_each { OnOk result (ForEach (rig_state rig.new) (λ told. AreAllMarks told facts.old field.now known.old.steps
+        marks.old → AreAllMarks told facts.new field.now known.new.steps marks.new)) }
+    ensures spends { Spends facts.old (IsOfField field.now) marks.old marks.new (rig_state rig.old).loads
         (rig_state rig.new).loads }
-    ensures spends_each { ForEach (rig_state rig.new) (λ told. AreAllMarks told facts.old near.now.items known.old.steps marks.old →
+    ensures spends_each { ForEach (rig_state rig.new) (λ told. AreAllMarks told facts.old field.now known.old.steps marks.old →
         SpendsFew told facts.old marks.old marks.new (rig_state rig.old).loads (rig_state rig.new).loads) }
     ensures advances { Advances (rig_state rig.old) (rig_state rig.new) facts.old facts.new }
     ensures cause { IsErrOf result RigFail.Failed → Rose (rig_state rig.old).failures (rig_state rig.new).failures }
 {
     let mut place = from;
     'places: while place < known.len() {
-        look_at(known, rig, facts, marks, near, place)?;
+        look_at(known, rig, facts, marks, field, place)?;
         place += 1;
     }
     Ok(())
@@ -64,29 +64,29 @@ fn grow_pin(
     rig: &mut Box<dyn Rig>,
     facts: &mut Facts,
     marks: &mut Marks,
-    near: &Vec<Near>,
+    field: &Field,
     pin: u32,
 ) -> Result<(), RigFail>
     requires attached { shape_of (rig_state rig.old) ≡ Some facts.old.shape }
     requires known { IsKnown facts.old known.old }
     requires all { KnowsAll facts.old known.old.steps }
-    requires links { AreLinked facts.old.shape near.now.items }
+    requires field { IsFieldOf facts.old.shape field.now }
     requires marks { AreMarksOver facts.old.shape marks.old }
     requires pin { pin < pins_of facts.old.shape }
     ensures grows { Grows facts.new known.old known.new marks.old.barred marks.new.barred }
-    ensures tried_each { OnOk result (ForEach (rig_state rig.new) (λ told. AreAllMarks told facts.old near.now.items known.old.steps
+    ensures tried_each { OnOk result (ForEach (rig_state rig.new) (λ told. AreAllMarks told facts.old field.now known.old.steps
         marks.old → AreTried told facts.new known.new.steps marks.old.barred marks.new.barred)) }
-    ensures grown_each { OnOk result (ForEach (rig_state rig.new) (λ told. AreAllMarks told facts.old near.now.items known.old.steps
-        marks.old → IsGrown told facts.old near.now.items known.old.steps marks.old.barred (length known.old.steps) → IsGrown told
-        facts.new near.now.items known.new.steps marks.new.barred (length known.new.steps))) }
+    ensures grown_each { OnOk result (ForEach (rig_state rig.new) (λ told. AreAllMarks told facts.old field.now known.old.steps
+        marks.old → IsGrown told facts.old field.now known.old.steps marks.old.barred (length known.old.steps) → IsGrown told
+        facts.new field.now known.new.steps marks.new.barred (length known.new.steps))) }
     ensures pin { OnOk result (HasWire known.new.steps (pin_wire facts.old.shape pin)
         ⊎ (has_number marks.new.barred (pin_wire facts.old.shape pin) ≡ true)) }
     ensures marks { AreMarksOver facts.new.shape marks.new }
-    ensures marks_each { OnOk result (ForEach (rig_state rig.new) (λ told. AreAllMarks told facts.old near.now.items known.old.steps
-        marks.old → AreAllMarks told facts.new near.now.items known.new.steps marks.new)) }
-    ensures spends { Spends facts.old (IsLinking near.now.items) marks.old marks.new (rig_state rig.old).loads
+    ensures marks_each { OnOk result (ForEach (rig_state rig.new) (λ told. AreAllMarks told facts.old field.now known.old.steps
+        marks.old → AreAllMarks told facts.new field.now known.new.steps marks.new)) }
+    ensures spends { Spends facts.old (IsOfField field.now) marks.old marks.new (rig_state rig.old).loads
         (rig_state rig.new).loads }
-    ensures spends_each { ForEach (rig_state rig.new) (λ told. AreAllMarks told facts.old near.now.items known.old.steps marks.old →
+    ensures spends_each { ForEach (rig_state rig.new) (λ told. AreAllMarks told facts.old field.now known.old.steps marks.old →
         SpendsFew told facts.old marks.old marks.new (rig_state rig.old).loads (rig_state rig.new).loads) }
     ensures advances { Advances (rig_state rig.old) (rig_state rig.new) facts.old facts.new }
     ensures cause { IsErrOf result RigFail.Failed → Rose (rig_state rig.old).failures (rig_state rig.new).failures }
@@ -101,10 +101,10 @@ fn grow_pin(
     }
     let from = known.len();
     try_pin(known, rig, facts, marks, pin)?;
-    look_on(known, rig, facts, marks, near, from)
+    look_on(known, rig, facts, marks, field, from)
 }
 
-// Known wires grow so over a list of the field's crosspoints, by wires.
+// Known wires grow so, looking over each link of each of them.
 fn grow_tried(
     rig: &mut Box<dyn Rig>,
     facts: &mut Facts,
@@ -129,15 +129,12 @@ fn grow_tried(
     the_numbering_is_sound();
     the_crosspoints_are_sound();
     let shape = facts.shape();
-    let Ok(near) = links_of(known.alloc(), &shape, field) else {
-        return Err(RigFail::Memory);
-    };
     let Ok(mut marks) = Marks::new(known.alloc(), field) else {
         return Err(RigFail::Memory);
     };
-    look_on(known, rig, facts, &mut marks, &near, 0)?;
+    look_on(known, rig, facts, &mut marks, field, 0)?;
     'pins: for pin in 0..shape.pins() {
-        grow_pin(known, rig, facts, &mut marks, &near, pin)?;
+        grow_pin(known, rig, facts, &mut marks, field, pin)?;
     }
     Ok(())
 }
@@ -146,9 +143,8 @@ fn grow_tried(
 /// of the machine or has two crosspoints of the field that aren't stuck to two different known wires, is known, and each crosspoint of
 /// the field between two known wires is kept unless it is stuck. What was known stays known, and what is new is of the field. What is kept
 /// costs nothing again: it takes at most 8 loads for each crosspoint of the field that the proof doesn't keep and 3 for each of its
-/// wires, less one for each pin of the machine in it, and without faults 2 and 3, less one for each such pin, whatever it answers. Its
-/// list of crosspoints, 16 bytes or more for each, has those alone that aren't kept or have an end that isn't known; where nothing is
-/// left to be found it makes none.
+/// wires, less one for each pin of the machine in it, and without faults 2 and 3, less one for each such pin, whatever it answers. Wants
+/// memory, some bits for each crosspoint and some bytes for each wire.
 ///
 /// # Errors
 ///

@@ -7,7 +7,7 @@ ghost use Rattle.machine_meaning.specs.Standing.{IsSeated};
 ghost use Rattle.rig.specs.Rig.{ForEach, shape_of};
 ghost use Rattle.diag_evidence.specs.Kept.{Advances};
 ghost use Rattle.diag_growth.specs.Seats.{AddsOnlyTableFacts, IsSeat, KeepsTable};
-ghost use Rattle.diag_known.specs.Vocabulary.{IsKeptCrossOf, IsKnown, HasWire, AreAllLinks};
+ghost use Rattle.diag_known.specs.Vocabulary.{IsKeptCrossOf, IsKnown, HasWire};
 ghost use Rattle.diag_growth.specs.Seating.{AreAllWithout};
 ghost use Rattle.diag_growth.specs.Tables.{SeatedAreKept, SeatedIsKept, TakesForTable, fresh_tables, keeps_table};
 
@@ -15,7 +15,7 @@ use crate::outside::outside_of;
 use crate::seats::{find_place, seat_of};
 use crate::{Seat, test_table};
 use diag_evidence::Facts;
-use diag_known::{Known, Near, all_links, stand_on};
+use diag_known::{Known, standing};
 use machine_shape::{Node, Table};
 use rig::{Rig, RigFail};
 use std::alloc::AllocError;
@@ -56,20 +56,14 @@ struct Without {
     known: Known,
 }
 
-// What stands without a hextant, over all links.
-fn without_of(
-    known: &Known,
-    facts: &Facts,
-    near: &Vec<Near>,
-    hextant: Node,
-) -> Result<Without, AllocError>
+// What stands without a hextant.
+fn without_of(known: &Known, facts: &Facts, hextant: Node) -> Result<Without, AllocError>
     requires known { IsKnown facts.now known.now }
-    requires links { AreAllLinks facts.now.shape near.now.items }
     ensures hextant { IfOk result (λ without. without.hextant.0 ≡ hextant.0) }
     ensures stands { IfOk result (λ without. AreAllWithout facts.now known.now.steps hextant.0 without.known) }
 {
     let outside = outside_of(known, hextant)?;
-    let stands = stand_on(known.alloc(), facts, outside, near)?;
+    let stands = standing(known.alloc(), facts, outside)?;
     Ok(Without {
         hextant,
         known: stands,
@@ -81,11 +75,9 @@ fn renew(
     without: &mut Without,
     known: &Known,
     facts: &Facts,
-    near: &Vec<Near>,
     hextant: Node,
 ) -> Result<(), AllocError>
     requires known { IsKnown facts.now known.now }
-    requires links { AreAllLinks facts.now.shape near.now.items }
     requires stands { AreAllWithout facts.now known.now.steps without.old.hextant.0 without.old.known }
     ensures hextant { OnOk result (without.new.hextant.0 ≡ hextant.0) }
     ensures stands { OnOk result (AreAllWithout facts.now known.now.steps without.new.hextant.0 without.new.known) }
@@ -93,7 +85,7 @@ fn renew(
     if without.hextant.0 == hextant.0 {
         return Ok(());
     }
-    *without = without_of(known, facts, near, hextant)?;
+    *without = without_of(known, facts, hextant)?;
     Ok(())
 }
 
@@ -101,12 +93,10 @@ fn renew(
 fn seat_for(
     known: &Known,
     facts: &Facts,
-    near: &Vec<Near>,
     without: &mut Without,
     t: Table,
 ) -> Result<Option<Seat>, AllocError>
     requires known { IsKnown facts.now known.now }
-    requires links { AreAllLinks facts.now.shape near.now.items }
     requires stands { AreAllWithout facts.now known.now.steps without.old.hextant.0 without.old.known }
     requires table { t.0 < tables_of facts.now.shape }
     ensures seat { IfOk result (λ found. IfSome found (λ seat. IsSeat facts.now seat × (seat.table.0 ≡ t.0))) }
@@ -117,7 +107,7 @@ fn seat_for(
     if !has_pins(known, t) {
         return Ok(None);
     }
-    renew(without, known, facts, near, known.shape().hextant_of(t))?;
+    renew(without, known, facts, known.shape().hextant_of(t))?;
     let Some(place) = find_place(known, &without.known, facts, t)? else {
         return Ok(None);
     };
@@ -130,13 +120,11 @@ fn test_seated(
     rig: &mut Box<dyn Rig>,
     facts: &mut Facts,
     known: &Known,
-    near: &Vec<Near>,
     without: &mut Without,
     t: Table,
 ) -> Result<(), RigFail>
     requires attached { shape_of (rig_state rig.old) ≡ Some facts.old.shape }
     requires known { IsKnown facts.old known.now }
-    requires links { AreAllLinks facts.old.shape near.now.items }
     requires stands { AreAllWithout facts.old known.now.steps without.old.hextant.0 without.old.known }
     requires table { t.0 < tables_of facts.old.shape }
     ensures table_each { OnOk result (ForEach (rig_state rig.new) (λ told. SeatedIsKept told facts.old facts.new known.now.steps t.0)) }
@@ -149,7 +137,7 @@ fn test_seated(
     if is_kept(facts, t) {
         return Ok(());
     }
-    let Ok(found) = seat_for(known, facts, near, without, t) else {
+    let Ok(found) = seat_for(known, facts, without, t) else {
         return Err(RigFail::Memory);
     };
     let Some(seat) = found else {
@@ -184,7 +172,7 @@ fn need_no_tests(facts: &Facts, known: &Known, tables: &[Table]) -> bool
     true
 }
 
-// Tests these tables over a list of all crosspoints, by wires.
+// Tests these tables, with what stands without the hextant of each.
 fn test_each(
     rig: &mut Box<dyn Rig>,
     facts: &mut Facts,
@@ -201,15 +189,12 @@ fn test_each(
     ensures loads { (rig_state rig.new).loads ≤ (rig_state rig.old).loads + 130 * fresh_tables facts.old tables.now }
     ensures cause { IsErrOf result RigFail.Failed → Rose (rig_state rig.old).failures (rig_state rig.new).failures }
 {
-    let Ok(near) = all_links(known.alloc(), &known.shape()) else {
-        return Err(RigFail::Memory);
-    };
     // That of no hextant yet.
-    let Ok(mut without) = without_of(known, facts, &near, Node(0)) else {
+    let Ok(mut without) = without_of(known, facts, Node(0)) else {
         return Err(RigFail::Memory);
     };
     'tables: for i in 0..tables.len() {
-        test_seated(rig, facts, known, &near, &mut without, tables[i])?;
+        test_seated(rig, facts, known, &mut without, tables[i])?;
     }
     Ok(())
 }
@@ -217,8 +202,7 @@ fn test_each(
 /// Tests these tables over known wires, with 130 loads at most for each of which a cell or the register wasn't kept before, and
 /// none for the others. For each set of faults that explains the log then, and of which what was kept is true, each of these tables
 /// that is seated in the known wires and the kept crosspoints, has no wrong cell and no stuck register has its 64 cells and its
-/// register kept after an Ok. At every end no other facts are new. Where each is kept or has a pin that isn't known, it makes no list of
-/// the machine's crosspoints, which takes 16 bytes or more for each.
+/// register kept after an Ok. At every end no other facts are new. Where each is kept or has a pin that isn't known, it looks no further.
 ///
 /// # Errors
 ///

@@ -1,8 +1,8 @@
 -- Crosspoints put behind others, item by item.
-use Rattle.std.proofs.Common.{◌≡◌, ◌≢◌, ◌⊎◌, ℕ, zero, suc, ◌+◌, ◌<◌, ◌≤◌, Bool, true, false, Some, List, [], ◌∷◌, ◌++◌, All, get_or, length, refl, sym, ap, ◌∙◌, subst, inl, inr, arith, slice_get, ◌==◌, ◌||◌}
+use Rattle.std.proofs.Common.{◌≡◌, ◌⊎◌, ℕ, zero, suc, ◌+◌, ◌<◌, ◌≤◌, Bool, true, false, Some, List, [], ◌∷◌, ◌++◌, All, get_or, length, refl, sym, ap, ◌∙◌, subst, inl, inr, arith, slice_get, ◌==◌, ◌||◌}
 use Rattle.diag_known.proofs.Vocabulary.{false≢true, nat_tests, Cross, among, Walk, cross_numbers, among_both, InSome, Adds}
 use Rattle.std.proofs.lemmas.Option.{slice_get_within, slice_get-get_or}
-use native.Mathlib.Decide.{dec_lt, ℕ_discrete}
+use native.Mathlib.Decide.{ℕ_discrete}
 use Rattle.diag_known.proofs.Passing.{among_last, among_before}
 use Rattle.diag_known.proofs.Places.{some_same}
 

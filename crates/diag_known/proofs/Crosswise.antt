@@ -60,11 +60,11 @@ tap_nodes {m} tree parents n w (tap_child c up p) = inr (ap (parent_of m) (tree.
 tap_nodes {m} tree parents n w (tap_table t k less at small is) = inl (ap (node_of m) is ∙ parents.table_node t k less small ∙ at)
 
 -- the ends of a crosspoint, by its node
-ends_here : (m : Shape) → HasCrosses m → (x : ℕ) → x < crosses_of m → ends_of m x ≡ (tap_at m (node_of_cross m x) (tap_position m x), line_at m (node_of_cross m x) (line_position m x))
+pub ends_here : (m : Shape) → HasCrosses m → (x : ℕ) → x < crosses_of m → ends_of m x ≡ (tap_at m (node_of_cross m x) (tap_position m x), line_at m (node_of_cross m x) (line_position m x))
 ends_here m crosses x less = ap (ends_of m) (sym (crosses.back x less)) ∙ crosses.ends (node_of_cross m x) (tap_position m x) (line_position m x) (crosses.node x less) (crosses.tap x less) (crosses.line x less)
 
 -- a crosspoint's line is of the crosspoint's node
-line_here : (m : Shape) → IsTree m → HasMeetings m → (x u node : ℕ) → node ≡ node_of m u → x < crosses_of m → (ends_of m x).1 ≡ u → node_of_cross m x ≡ node
+pub line_here : (m : Shape) → IsTree m → HasMeetings m → (x u node : ℕ) → node ≡ node_of m u → x < crosses_of m → (ends_of m x).1 ≡ u → node_of_cross m x ≡ node
 line_here m tree meetings x u node home less e = sym (tree.line_node (node_of_cross m x) u (subst (IsLine m (node_of_cross m x)) e (meetings.line x less))) ∙ sym home
 
 -- a wire with a crosspoint as its line is a tap of none
@@ -92,50 +92,72 @@ line_of_none m crosses node w count many empty x less at is =
     let low : tap_position m x < taps_of m node = subst (λ n. tap_position m x < taps_of m n) at (crosses.tap x less) in
     omega (arith, empty, low, many)
 
--- at a place of a node
-module _ {k : Kept} {left : List Bool} {feet : List (Option Support)} (crosses : HasCrosses k.shape) (u x n w : ℕ) (less : x < crosses_of k.shape) (is : node_of_cross k.shape x ≡ n) (kept : keeps_cross k x ≡ true) where
-  at_line : (ends_of k.shape x).0 ≡ u → (ends_of k.shape x).1 ≡ w → AreLookedAcross k left feet across.Lines u n (lines_of k.shape n) → IsSettled left feet w u
-  at_line e f s =
-      let same : line_at k.shape n (line_position k.shape x) ≡ w = ap (λ i. line_at k.shape i (line_position k.shape x)) (sym is) ∙ sym (ap (λ (p : ℕ × ℕ). p.1) (ends_here k.shape crosses x less)) ∙ f in
-      let low : line_position k.shape x < lines_of k.shape n = subst (λ i. line_position k.shape x < lines_of k.shape i) is (crosses.line x less) in
-      subst (λ v. IsSettled left feet v u) same ((s (line_position k.shape x) low).at x less kept (λ i. (e i, (f ∙ sym same) i)))
+-- what holds of each crosspoint of a wire with the lines or taps of a node
+abbrev pub HoldsAcross : Shape → (ℕ → ℕ → Type 0) → Across → ℕ → ℕ → Type 0
+HoldsAcross m P a u n = (i x : ℕ) → i < across_of m a n → x < crosses_of m → ends_of m x ≡ ends_by a u (across_at m a n i) → P x (across_at m a n i)
 
-  at_tap : (ends_of k.shape x).0 ≡ w → (ends_of k.shape x).1 ≡ u → AreLookedAcross k left feet across.Taps u n (taps_of k.shape n) → IsSettled left feet w u
+-- .. holds at a place of the node
+module _ {m : Shape} (P : ℕ → ℕ → Type 0) (crosses : HasCrosses m) (u x n w : ℕ) (less : x < crosses_of m) (is : node_of_cross m x ≡ n) where
+  at_line : (ends_of m x).0 ≡ u → (ends_of m x).1 ≡ w → HoldsAcross m P across.Lines u n → P x w
+  at_line e f s =
+      let same : line_at m n (line_position m x) ≡ w = ap (λ i. line_at m i (line_position m x)) (sym is) ∙ sym (ap (λ (p : ℕ × ℕ). p.1) (ends_here m crosses x less)) ∙ f in
+      let low : line_position m x < lines_of m n = subst (λ i. line_position m x < lines_of m i) is (crosses.line x less) in
+      subst (P x) same (s (line_position m x) x low less (λ i. (e i, (f ∙ sym same) i)))
+
+  at_tap : (ends_of m x).0 ≡ w → (ends_of m x).1 ≡ u → HoldsAcross m P across.Taps u n → P x w
   at_tap e f s =
-      let same : tap_at k.shape n (tap_position k.shape x) ≡ w = ap (λ i. tap_at k.shape i (tap_position k.shape x)) (sym is) ∙ sym (ap (λ (p : ℕ × ℕ). p.0) (ends_here k.shape crosses x less)) ∙ e in
-      let low : tap_position k.shape x < taps_of k.shape n = subst (λ i. tap_position k.shape x < taps_of k.shape i) is (crosses.tap x less) in
-      subst (λ v. IsSettled left feet v u) same ((s (tap_position k.shape x) low).at x less kept (λ i. ((e ∙ sym same) i, f i)))
+      let same : tap_at m n (tap_position m x) ≡ w = ap (λ i. tap_at m i (tap_position m x)) (sym is) ∙ sym (ap (λ (p : ℕ × ℕ). p.0) (ends_here m crosses x less)) ∙ e in
+      let low : tap_position m x < taps_of m n = subst (λ i. tap_position m x < taps_of m i) is (crosses.tap x less) in
+      subst (P x) same (s (tap_position m x) x low less (λ i. ((e ∙ sym same) i, f i)))
 
 home_so : {m n : Shape} (u node : ℕ) → m ≡ n → node ≡ node_of m u → node ≡ node_of n u
 home_so u node same e = subst (λ (o : Shape). node ≡ node_of o u) same e
 
--- All that a wire crosses was looked at: a line of its node, or a tap of it and perhaps of the one above.
-module _ {k : Kept} {left : List Bool} {feet : List (Option Support)} {asked : Shape} (same : asked ≡ k.shape) (u node : ℕ) (tree : IsTree k.shape) (crosses : HasCrosses k.shape) (meetings : HasMeetings k.shape) (asked_home : node ≡ node_of asked u) where
-  pub line_looked : ((x : ℕ) → x < crosses_of asked → (ends_of asked x).0 ≢ u) → AreLookedAcross k left feet across.Taps u node (taps_of k.shape node) → IsLookedFrom k left feet u
-  line_looked no_tap s = record { at = λ x w less kept at. by x w less kept at }
+-- What holds so of a wire, a line of its node or a tap of it and perhaps of the one above, holds of all its crosspoints.
+module _ {m asked : Shape} (P : ℕ → ℕ → Type 0) (same : asked ≡ m) (u node : ℕ) (tree : IsTree m) (crosses : HasCrosses m) (meetings : HasMeetings m) (asked_home : node ≡ node_of asked u) where
+  pub line_around : ((x : ℕ) → x < crosses_of asked → (ends_of asked x).0 ≢ u) → HoldsAcross m P across.Taps u node → (x w : ℕ) → x < crosses_of m → Ends (ends_of m x) u w → P x w
+  line_around no_tap s x w less at = by at
     where
-      no_tap_so : (x : ℕ) → x < crosses_of k.shape → (ends_of k.shape x).0 ≢ u
+      no_tap_so : (x : ℕ) → x < crosses_of m → (ends_of m x).0 ≢ u
       no_tap_so = subst (λ (m : Shape). (x : ℕ) → x < crosses_of m → (ends_of m x).0 ≢ u) same no_tap
 
-      by : (x w : ℕ) → x < crosses_of k.shape → keeps_cross k x ≡ true → Ends (ends_of k.shape x) u w → IsSettled left feet w u
-      by x w less kept (in_order e f) = absurd (no_tap_so x less e)
-      by x w less kept (turned e f) = at_tap crosses u x node w less (line_here k.shape tree meetings x u node (home_so u node same asked_home) less f) kept e f s
+      by : Ends (ends_of m x) u w → P x w
+      by (in_order e f) = absurd (no_tap_so x less e)
+      by (turned e f) = at_tap P crosses u x node w less (line_here m tree meetings x u node (home_so u node same asked_home) less f) e f s
+
+  pub tap_around : HasParents m → ((x : ℕ) → x < crosses_of asked → node_of_cross asked x ≡ node → (ends_of asked x).1 ≢ u) →
+      ((n : ℕ) → parent_of m node ≡ Some n → HoldsAcross m P across.Lines u n) → HoldsAcross m P across.Lines u node → (x w : ℕ) → x < crosses_of m → Ends (ends_of m x) u w → P x w
+  tap_around parents no_line above here x w less at = by at
+    where
+      no_line_so : (x : ℕ) → x < crosses_of m → node_of_cross m x ≡ node → (ends_of m x).1 ≢ u
+      no_line_so = subst (λ (m : Shape). (x : ℕ) → x < crosses_of m → node_of_cross m x ≡ node → (ends_of m x).1 ≢ u) same no_line
+
+      by_node : (ends_of m x).0 ≡ u → (ends_of m x).1 ≡ w → (node_of m u ≡ node_of_cross m x) ⊎ (parent_of m (node_of m u) ≡ Some (node_of_cross m x)) → P x w
+      by_node e f (inl is) = at_line P crosses u x node w less (sym is ∙ sym (home_so u node same asked_home)) e f here
+      by_node e f (inr up) = at_line P crosses u x (node_of_cross m x) w less refl e f (above (node_of_cross m x) (ap (parent_of m) (home_so u node same asked_home) ∙ up))
+
+      by : Ends (ends_of m x) u w → P x w
+      by (in_order e f) = by_node e f (tap_nodes tree parents (node_of_cross m x) u (subst (IsTap m (node_of_cross m x)) e (meetings.tap x less)))
+      by (turned e f) = absurd (no_line_so x less (line_here m tree meetings x u node (home_so u node same asked_home) less f) f)
+
+-- by a kept crosspoint the wire is settled to this one
+abbrev SettlesTo : Kept → List Bool → List (Option Support) → ℕ → ℕ → ℕ → Type 0
+SettlesTo k left feet u x w = keeps_cross k x ≡ true → IsSettled left feet w u
+
+by_looks : {k : Kept} {left : List Bool} {feet : List (Option Support)} (a : Across) (u n : ℕ) → AreLookedAcross k left feet a u n (across_of k.shape a n) → HoldsAcross k.shape (SettlesTo k left feet u) a u n
+by_looks a u n s i x low less e kept = (s i low).at x less kept e
+
+-- all that a wire crosses was looked at
+module _ {k : Kept} {left : List Bool} {feet : List (Option Support)} {asked : Shape} (same : asked ≡ k.shape) (u node : ℕ) (tree : IsTree k.shape) (crosses : HasCrosses k.shape) (meetings : HasMeetings k.shape) (asked_home : node ≡ node_of asked u) where
+  pub line_looked : ((x : ℕ) → x < crosses_of asked → (ends_of asked x).0 ≢ u) → AreLookedAcross k left feet across.Taps u node (taps_of k.shape node) → IsLookedFrom k left feet u
+  line_looked no_tap s = record { at = λ x w less kept at. line_around (SettlesTo k left feet u) same u node tree crosses meetings asked_home no_tap (by_looks across.Taps u node s) x w less at kept }
 
   pub tap_looked : HasParents k.shape → ((x : ℕ) → x < crosses_of asked → node_of_cross asked x ≡ node → (ends_of asked x).1 ≢ u) →
       ((n : ℕ) → parent_of k.shape node ≡ Some n → AreLookedAcross k left feet across.Lines u n (lines_of k.shape n)) → AreLookedAcross k left feet across.Lines u node (lines_of k.shape node) → IsLookedFrom k left feet u
-  tap_looked parents no_line above here = record { at = λ x w less kept at. by x w less kept at }
-    where
-      no_line_so : (x : ℕ) → x < crosses_of k.shape → node_of_cross k.shape x ≡ node → (ends_of k.shape x).1 ≢ u
-      no_line_so = subst (λ (m : Shape). (x : ℕ) → x < crosses_of m → node_of_cross m x ≡ node → (ends_of m x).1 ≢ u) same no_line
-
-      by_node : (x w : ℕ) → x < crosses_of k.shape → keeps_cross k x ≡ true → (ends_of k.shape x).0 ≡ u → (ends_of k.shape x).1 ≡ w →
-          (node_of k.shape u ≡ node_of_cross k.shape x) ⊎ (parent_of k.shape (node_of k.shape u) ≡ Some (node_of_cross k.shape x)) → IsSettled left feet w u
-      by_node x w less kept e f (inl is) = at_line crosses u x node w less (sym is ∙ sym (home_so u node same asked_home)) kept e f here
-      by_node x w less kept e f (inr up) = at_line crosses u x (node_of_cross k.shape x) w less refl kept e f (above (node_of_cross k.shape x) (ap (parent_of k.shape) (home_so u node same asked_home) ∙ up))
-
-      by : (x w : ℕ) → x < crosses_of k.shape → keeps_cross k x ≡ true → Ends (ends_of k.shape x) u w → IsSettled left feet w u
-      by x w less kept (in_order e f) = by_node x w less kept e f (tap_nodes tree parents (node_of_cross k.shape x) u (subst (IsTap k.shape (node_of_cross k.shape x)) e (meetings.tap x less)))
-      by x w less kept (turned e f) = absurd (no_line_so x less (line_here k.shape tree meetings x u node (home_so u node same asked_home) less f) f)
+  tap_looked parents no_line above here = record {
+    at = λ x w less kept at.
+        tap_around (SettlesTo k left feet u) same u node tree crosses meetings asked_home parents no_line (λ n up. by_looks across.Lines u n (above n up)) (by_looks across.Lines u node here) x w less at kept;
+  }
 
 -- the wire at the next place was looked around
 pub looked_more : {k : Kept} {n m : KnownWires} {left rest : List Bool} {feet more : List (Option Support)} {place from : ℕ} → AreLooked k n left feet place → Founds n m left rest feet more → IsAt n.steps place from →

@@ -1,13 +1,13 @@
 -- What stands by kept crosspoints, wire by wire.
-use Rattle.std.proofs.Common.{◌≡◌, ◌≢◌, ◌⊎◌, ℕ, zero, suc, ◌+◌, ◌<◌, ◌≤◌, Bool, true, false, Some, None, Option, List, [], ◌∷◌, ◌++◌, length, refl, sym, ap, ◌∙◌, subst, inl, inr, arith, set, slice_get, replicate}
-use Rattle.diag_known.proofs.Vocabulary.{false≢true, slice_get_within, has_number, Ends, in_order, turned, ends_of, pin_wire, pins_of}
-use Rattle.diag_known.proofs.Vocabulary.{crosses_of, wires_of, Kept, keeps_cross, keeps_pair, Near, Support, VerifiedWire}
+use Rattle.std.proofs.Common.{◌≡◌, ◌≢◌, ◌⊎◌, ℕ, zero, suc, ◌<◌, Bool, true, false, Some, None, Option, List, [], ◌∷◌, ◌++◌, length, refl, sym, ap, ◌∙◌, subst, inl, inr, arith, set, slice_get, replicate}
+use Rattle.diag_known.proofs.Vocabulary.{false≢true, has_number, Ends, in_order, turned, ends_of, pin_wire, pins_of}
+use Rattle.diag_known.proofs.Vocabulary.{crosses_of, wires_of, Kept, keeps_cross, keeps_pair, Support, VerifiedWire}
 use Rattle.std.proofs.lemmas.List.{length-set, length_push, get_or-set_same, get_or-set_other, get_or-replicate, get_or_past, length-replicate}
 use native.Mathlib.Decide.{dec_lt, ℕ_discrete}
 use Rattle.base_bits.proofs.NumbersLemmas.{size_of-taken}
-use Rattle.diag_known.specs.Vocabulary.{KnownWires, IsAt, HasWire, IsFoot, Stands, IsKnown, IsKeptCrossOf, InSet, AreApart, IsGood, list_at, HasLink, IsBetween, AreAllLinks, foot_at, IsFootTo, IsGround, IsSettled, Founds, AreSettled}
+use Rattle.diag_known.specs.Vocabulary.{KnownWires, IsAt, HasWire, IsFoot, Stands, IsKeptCrossOf, InSet, AreApart, IsGood, IsBetween, foot_at, IsFootTo, IsGround, IsSettled, Founds}
 use Rattle.machine_meaning.specs.Standing.{StandsBy, pin_stands, on_two}
-use Rattle.diag_known.proofs.Places.{at_later, has_later, get_pushed, get_last, at_one, some_same, at_within}
+use Rattle.diag_known.proofs.Places.{at_later, has_later, get_pushed, get_last, some_same, at_within}
 use Rattle.diag_known.proofs.Later.{learnt}
 
 -- nothing was found
@@ -183,31 +183,6 @@ foot_to {k} n {from} {w} {x} a cross wire b kept has = record {
   stands = subst (HasWire n.steps) (sym wire) has;
 }
 
--- links of the first j places of a wire are settled
-pub record AreTaken (k : Kept) (links : List Support) (j from : ℕ) (left : List Bool) (feet : List (Option Support)) : Type 0 where
-  pub at : (i : ℕ) (a : Support) → i < j → slice_get links i ≡ Some a → keeps_cross k a.cross.0 ≡ true → IsSettled left feet a.wire.0 from
-
-pub taken_more : {k : Kept} {n m : KnownWires} {links : List Support} {j from : ℕ} {left rest : List Bool} {feet more : List (Option Support)} → AreTaken k links j from left feet → Founds n m left rest feet more →
-    (link : Support) → slice_get links j ≡ Some link → (keeps_cross k link.cross.0 ≡ true → IsSettled rest more link.wire.0 from) → AreTaken k links (j + 1) from rest more
-taken_more {k} {links = links} {j = j} {from = from} {rest = rest} {more = more} t f link here now = record { at = λ i a lt at kept. by i a at kept (dec_lt i j) lt }
-  where
-    by : (i : ℕ) (a : Support) → slice_get links i ≡ Some a → keeps_cross k a.cross.0 ≡ true → Dec (i < j) → i < j + 1 → IsSettled rest more a.wire.0 from
-    by i a at kept (yes h) lt = f.settled a.wire.0 from (t.at i a h at kept)
-    by i a at kept (no h) lt =
-        let same : i ≡ j = omega (arith, h, lt) in
-        let is : link ≡ a = some_same (sym here ∙ ap (slice_get links) (sym same) ∙ at) in
-        subst (λ (b : Support). IsSettled rest more b.wire.0 from) is (now (ap (λ (b : Support). keeps_cross k b.cross.0) is ∙ kept))
-
-pub taken_none : {k : Kept} {links : List Support} {j from : ℕ} {left : List Bool} {feet : List (Option Support)} → AreTaken k links j from left feet → slice_get links j ≡ None → AreTaken k links (j + 1) from left feet
-taken_none {k} {links} {j} {from} {left} {feet} t none = record { at = λ i a lt at kept. by i a at kept (dec_lt i j) lt }
-  where
-    by : (i : ℕ) (a : Support) → slice_get links i ≡ Some a → keeps_cross k a.cross.0 ≡ true → Dec (i < j) → i < j + 1 → IsSettled left feet a.wire.0 from
-    by i a at kept (yes h) lt = t.at i a h at kept
-    by i a at kept (no h) lt = absurd (let same : i ≡ j = omega (arith, h, lt) in let no_foot : None ≡ Some a = sym none ∙ ap (slice_get links) (sym same) ∙ at in cc)
-
-pub taken_first : {k : Kept} {links : List Support} {from : ℕ} {left : List Bool} {feet : List (Option Support)} → AreTaken k links 0 from left feet
-taken_first = record { at = λ i a lt at kept. absurd (let none : ⊥ = omega (arith, lt) in none) }
-
 pub step_there : (ss : List VerifiedWire) (i : ℕ) → i < length ss → (t : VerifiedWire) × (slice_get ss i ≡ Some t)
 step_there [] i h = absurd (let none : ⊥ = omega (arith, h) in none)
 step_there (s ∷ ss) zero h = (s, refl)
@@ -220,9 +195,6 @@ out_still {left = left} {rest = rest} f w out = by (has_number rest w) refl
     by : (b : Bool) → has_number rest w ≡ b → has_number rest w ≡ false
     by true e = absurd (false≢true (sym out ∙ f.less w e))
     by false e = e
-
-pub settled_none : (k : Kept) (near : List Near) (n : KnownWires) (left : List Bool) (feet : List (Option Support)) → AreSettled k near n left feet 0
-settled_none k near n left feet w x u b link kept = absurd (let e = b.early in let none : ⊥ = omega (arith, e) in none)
 
 -- before anything stands
 pub ground_none : {k : Kept} {n : KnownWires} (wires : List Bool) (feet : List (Option Support)) (len : ℕ) → AreApart k wires → n.shape ≡ k.shape → n.steps ≡ [] → feet ≡ replicate len None → len ≡ wires_of k.shape → IsGround k n wires feet
@@ -251,12 +223,6 @@ ground_none {k} {n} wires feet len apart shape steps none wide = record {
         by (yes h) = get_or-replicate len w None None h
         by (no h) = get_or_past (replicate len None) w None (rw length-replicate (omega (arith, h)))
 
--- the foot of a wire to one that stands, over links that were all taken
-pub foot_by_links : (k : Kept) (near : List Near) (n : KnownWires) (left : List Bool) (feet : List (Option Support)) → AreAllLinks k.shape near → AreSettled k near n left feet (length n.steps) →
-    (w x a : ℕ) → IsKeptCrossOf k x → Ends (ends_of k.shape x) a w → HasWire n.steps a → IsSettled left feet w a
-foot_by_links k near n left feet links settled w x a c e has =
-    settled w x a (record { place = has.place; early = at_within has.at; at = has.at }) (links.whole a x w (record { within = c.0; at = ends_turned e })) c.1
-
 -- all that stands by kept crosspoints was found
 module _ (k : Kept) (n : KnownWires) (wires left : List Bool) (feet : List (Option Support))
     (from_foot : (w x a : ℕ) → IsKeptCrossOf k x → Ends (ends_of k.shape x) a w → HasWire n.steps a → IsSettled left feet w a)
@@ -277,38 +243,3 @@ module _ (k : Kept) (n : KnownWires) (wires left : List Bool) (feet : List (Opti
   pub stands_all : (w : ℕ) → StandsBy k.shape (InSet wires) (IsKeptCrossOf k) w → HasWire n.steps w
   stands_all w (pin_stands i lt is) = by_pin i lt (whole (pin_wire k.shape i) is)
   stands_all w (on_two v x y a b is cx cy ex ey differ sa sb) = by_two w a b differ (from_foot w x a cx ex (stands_all a sa)) (from_foot w y b cy ey (stands_all b sb)) (whole w is)
-
--- the links of the wire at the next place were all taken
-pub settled_more : {k : Kept} (near : List Near) {n m : KnownWires} {left rest : List Bool} {feet more : List (Option Support)} {place from j : ℕ} → AreSettled k near n left feet place → IsKnown k n → IsKnown k m → Founds n m left rest feet more →
-    IsAt n.steps place from → length (list_at near from) ≤ j → AreTaken k (list_at near from) j from rest more → AreSettled k near m rest more (place + 1)
-settled_more {k} near {n} {m} {left} {rest} {feet} {more} {place} {from} {j} s isn ism f at le t w x u b link kept = by (dec_lt b.place place)
-  where
-    here : IsAt m.steps place from
-    here = f.stays place from at
-
-    by : Dec (b.place < place) → IsSettled rest more w u
-    by (yes early) = f.settled w u (s w x u (record { place = b.place; early = early; at = old }) link kept)
-      where
-        old : IsAt n.steps b.place u
-        old = by_place (dec_lt b.place (length n.steps))
-          where
-            by_place : Dec (b.place < length n.steps) → IsAt n.steps b.place u
-            by_place (yes h) = was (step_there n.steps b.place h)
-              where
-                was : ((t : VerifiedWire) × (slice_get n.steps b.place ≡ Some t)) → IsAt n.steps b.place u
-                was t =
-                    let v : IsAt n.steps b.place t.0.wire.0 = record { step = t.0; here = t.1; wire = refl } in
-                    let same : t.0.wire.0 ≡ u = at_one (f.stays b.place t.0.wire.0 v) b.at in
-                    record { step = t.0; here = t.1; wire = same }
-            by_place (no h) = absurd (let low = at_within at in let none : ⊥ = omega (arith, h, low, early) in none)
-    by (no late) =
-        let lt = b.early in
-        let same : b.place ≡ place = omega (arith, late, lt) in
-        let is : u ≡ from = at_one b.at (subst (λ p. IsAt m.steps p from) (sym same) here) in
-        taken is
-      where
-        taken : u ≡ from → IsSettled rest more w u
-        taken is =
-            let l : HasLink (list_at near from) x w = subst (λ v. HasLink (list_at near v) x w) is link in
-            let done = t.at l.place l.link (let h = slice_get_within (list_at near from) l.place l.link l.here in omega (arith, h, le)) l.here (ap (keeps_cross k) l.cross ∙ kept) in
-            subst (IsSettled rest more w) (sym is) (subst (λ v. IsSettled rest more v from) l.wire done)

@@ -1,5 +1,5 @@
 -- A wire that hangs on what is reached beside a way: a toggle of a crosspoint from it to the way's end passes.
-use Rattle.std.proofs.Common.{◌≡◌, ◌≢◌, ◌⊎◌, ℕ, zero, suc, ◌<◌, Bool, true, false, Some, None, Option, List, [], ◌∷◌, ◌++◌, refl, sym, ap, ◌∙◌, subst, inl, inr, arith, slice_get, slice_index_or, ◌==◌, ◌||◌}
+use Rattle.std.proofs.Common.{◌≡◌, ◌≢◌, ◌⊎◌, ℕ, zero, suc, ◌<◌, Bool, true, false, Some, None, Option, List, [], ◌∷◌, ◌++◌, refl, sym, ap, ◌∙◌, subst, inl, inr, arith, slice_get, ◌==◌, ◌||◌}
 use Rattle.diag_known.proofs.Vocabulary.{false≢true, nat_tests, list_any-append, Cross, Shape, Ends, ends_of, pin_wire, crosses_of, Pins}
 use Rattle.diag_known.proofs.Vocabulary.{Faults, stuck_cross, Shorted, IsClear, Ends-swap, Configuration, among, IsWithin, LeadsTo, ends}
 use Rattle.diag_known.proofs.Vocabulary.{goes, IsLoop, IsDrivenIn, LeadsTo-start, LeadsTo-end, LeadsTo-within, among_both, holds_earlier}

@@ -4,11 +4,11 @@ pub mod Getting
 pub mod Rising
 pub mod Later
 pub mod Apart
-pub mod Linking
 pub mod Grounding
 pub mod Stood
 pub mod Counting
 mod Crosswise
+mod Linking
 pub mod Taking
 pub mod Besides
 pub mod Passing

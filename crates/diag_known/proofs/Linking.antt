@@ -1,143 +1,189 @@
--- Links, crosspoint by crosspoint.
-use Rattle.std.proofs.Common.{◌≡◌, ◌≢◌, ◌⊎◌, ℕ, zero, suc, ◌+◌, ◌<◌, ◌≤◌, true, false, Some, None, Option, List, [], ◌∷◌, ◌++◌, length, set, get_or, refl, sym, ap, ◌∙◌, subst, inl, inr, arith, slice_get, nat_lt}
-use Rattle.diag_known.proofs.Vocabulary.{false≢true, nat_tests, slice_get_read, slice_get_past, has_number, Shape, Ends-swap, Near, Support}
-use native.Mathlib.Decide.{dec_lt, ℕ_discrete}
-use Rattle.machine_shape.specs.Shape.{Ends, in_order, turned, ends_of, crosses_of}
-use Rattle.diag_known.specs.Vocabulary.{IsInField, HasLink, AreLinksUpTo, AreLinks, AddsLink, Links, AreLinked, list_at, AreAllLinks}
-use Rattle.diag_known.specs.declared.field.Field.{Field}
-use Rattle.diag_known.proofs.Places.{get_before, get_last, get_pushed, some_same}
+-- The links of a wire, row by row.
+use Rattle.std.proofs.Common.{◌≡◌, ◌≢◌, ◌⊎◌, ℕ, zero, suc, ◌+◌, ◌*◌, ◌<◌, true, false, Option, Some, None, List, [], ◌∷◌, ◌++◌, length, refl, sym, ap, ◌∙◌, subst, inl, inr, arith, slice_get}
+use Rattle.diag_known.proofs.Vocabulary.{false≢true, has_number, Shape, Ends-swap, Support, ends_of, crosses_of}
+use Rattle.machine_shape.specs.Vocabulary.{HasCrosses, HasMeetings, HasParents, HasRows, HasSites, HasTaps, IsLine, IsTap, IsTree, cross_at, first_cross_of, line_at, line_position, lines_of, node_of, node_of_cross, nodes_of, parent_of, tap_at, tap_position, taps_of}
+use Rattle.diag_known.specs.Vocabulary.{IsInField, HasLink, AreInField, AreLinksOf, AreListed, HasMore, IsRow, MissesRow, across_at, across_of, ends_by}
+use Rattle.diag_known.specs.declared.{field.Field.Field, links.Row.Row, looks.Across.Across}
+use Rattle.diag_known.specs.declared.looks.Across.TheVariants as across
+use Rattle.diag_known.proofs.Crosswise.{between_across, ends_here, line_around, line_here, line_not, tap_around}
+use Rattle.diag_known.proofs.Places.{get_before, get_last, get_pushed, one_more, some_same}
 
-pub list_at_some : (near : List Near) (w : ℕ) (v : Near) → slice_get near w ≡ Some v → list_at near w ≡ v.links.items
-list_at_some [] w v e = cc
-list_at_some (u ∷ near) zero v e = ap (λ (x : Near). x.links.items) (some_same e)
-list_at_some (u ∷ near) (suc w) v e = list_at_some near w v e
-
-pub list_at_none : (near : List Near) (w : ℕ) → slice_get near w ≡ None → list_at near w ≡ []
-list_at_none [] w e = refl
-list_at_none (u ∷ near) zero e = cc
-list_at_none (u ∷ near) (suc w) e = list_at_none near w e
-
--- what was read at a place of a list, or that there is none
-pub item_read : {X : Type 0} (xs : List X) (j : ℕ) (x : X) → true ≡ nat_lt j (length xs) → x ≡ get_or xs j x → slice_get xs j ≡ Some x
-item_read xs j x within is = slice_get_read xs (length xs) j x refl (grind (arith, nat_tests, within)) is
-
-pub item_past : {X : Type 0} (xs : List X) (j : ℕ) → false ≡ nat_lt j (length xs) → slice_get xs j ≡ None
-item_past xs j past = slice_get_past xs j (grind (arith, nat_tests, past))
-
-pub list_at_same : (near : List Near) (w : ℕ) (v : Near) → w < length near → list_at (set near w v) w ≡ v.links.items
-list_at_same [] w v h = absurd (let no : ⊥ = omega (arith, h) in no)
-list_at_same (u ∷ near) zero v h = refl
-list_at_same (u ∷ near) (suc w) v h = list_at_same near w v (omega (arith, h))
-
-pub list_at_other : (near : List Near) (w u : ℕ) (v : Near) → u ≢ w → list_at (set near w v) u ≡ list_at near u
-list_at_other [] w u v n = refl
-list_at_other (x ∷ near) zero zero v n = absurd (n refl)
-list_at_other (x ∷ near) zero (suc u) v n = refl
-list_at_other (x ∷ near) (suc w) zero v n = refl
-list_at_other (x ∷ near) (suc w) (suc u) v n = list_at_other near w u v (λ e. n (ap suc e))
-
-pub none_pushed : (near : List Near) (v : Near) → ((w : ℕ) → list_at near w ≡ []) → v.links.items ≡ [] → (w : ℕ) → list_at (near ++ v ∷ []) w ≡ []
-none_pushed [] v h e zero = e
-none_pushed [] v h e (suc w) = refl
-none_pushed (x ∷ near) v h e zero = h zero
-none_pushed (x ∷ near) v h e (suc w) = none_pushed near v (λ u. h (suc u)) e w
-
-pub up_to_none : (m : Shape) (a : Field) (near : List Near) → ((w : ℕ) → list_at near w ≡ []) → AreLinksUpTo m a near 0
-up_to_none m a near none = record {
-  right = λ w j link here. absurd (let e = subst (λ ls. slice_get ls j ≡ Some link) (none w) here in no_item e);
-  whole = λ w x u less i. absurd (let no : ⊥ = omega (arith, less) in no);
-}
+-- none is listed yet
+pub none_listed : (m : Shape) (a : Field) (w : ℕ) (links : List Support) → links ≡ [] → AreInField m a w links
+none_listed m a w links none j link here = absurd (let no_link = subst (λ ls. slice_get ls j ≡ Some link) none here in by no_link)
   where
-    no_item : {link : Support} → ◌≡◌ {A = Option Support} None (Some link) → ⊥
-    no_item e = cc
-
-pub up_to_all : (m : Shape) (a : Field) (near : List Near) (n : ℕ) → crosses_of m ≤ n → AreLinksUpTo m a near n → AreLinks m a near
-up_to_all m a near n le up = record { right = up.right; whole = λ w x u i. up.whole w x u (let h = i.within in omega (arith, h, le)) i }
-
--- a crosspoint that isn't of the field
-pub up_to_past : (m : Shape) (a : Field) (near : List Near) (c : ℕ) → has_number a.crosses c ≡ false → AreLinksUpTo m a near c → AreLinksUpTo m a near (c + 1)
-up_to_past m a near c off up = record { right = up.right; whole = λ w x u less i. by_place w x u less i (ℕ_discrete x c) }
-  where
-    by_place : (w x u : ℕ) → x < c + 1 → IsInField m a x u w → Dec (x ≡ c) → HasLink (list_at near w) x u
-    by_place w x u less i (yes e) = absurd (false≢true (sym off ∙ ap (has_number a.crosses) (sym e) ∙ i.has))
-    by_place w x u less i (no n) = up.whole w x u (omega (arith, less, n)) i
+    by : slice_get [] j ≡ Some link → ⊥
+    by e = cc
 
 has_pushed : {ls : List Support} {x u : ℕ} (link : Support) → HasLink ls x u → HasLink (ls ++ link ∷ []) x u
 has_pushed {ls} link h = record { place = h.place; link = h.link; here = get_before ls (link ∷ []) h.place h.link h.here; cross = h.cross; wire = h.wire }
 
-module _ {old new : List Near} {w : ℕ} {link : Support} (adds : AddsLink old new w link) where
-  pub added_stays : (v x u : ℕ) → HasLink (list_at old v) x u → HasLink (list_at new v) x u
-  added_stays v x u h = by_wire (ℕ_discrete v w)
-    where
-      by_wire : Dec (v ≡ w) → HasLink (list_at new v) x u
-      by_wire (yes e) = subst (λ ls. HasLink ls x u) (sym adds.this ∙ ap (list_at new) (sym e)) (has_pushed link (subst (λ p. HasLink (list_at old p) x u) e h))
-      by_wire (no n) = subst (λ ls. HasLink ls x u) (sym (adds.others v n)) h
+has_last : (ls : List Support) (link : Support) → HasLink (ls ++ link ∷ []) link.cross.0 link.wire.0
+has_last ls link = record { place = length ls; link = link; here = get_last ls link; cross = refl; wire = refl }
 
-  pub added_has : HasLink (list_at new w) link.cross.0 link.wire.0
-  added_has = subst (λ ls. HasLink ls link.cross.0 link.wire.0) (sym adds.this) (record { place = length (list_at old w); link = link; here = get_last (list_at old w) link; cross = refl; wire = refl })
+-- one more is listed
+pub more_pushed : {old new : List Support} (link : Support) → new ≡ old ++ link ∷ [] → HasMore old new
+more_pushed link pushed x u h = subst (λ ls. HasLink ls x u) (sym pushed) (has_pushed link h)
 
-  pub added_right : {m : Shape} {a : Field} → ((v j : ℕ) (l : Support) → slice_get (list_at old v) j ≡ Some l → IsInField m a l.cross.0 l.wire.0 v) → IsInField m a link.cross.0 link.wire.0 w →
-      (v j : ℕ) (l : Support) → slice_get (list_at new v) j ≡ Some l → IsInField m a l.cross.0 l.wire.0 v
-  added_right {m} {a} right this v j l here = by_wire (ℕ_discrete v w)
-    where
-      by_push : (v ≡ w) → (slice_get (list_at old w) j ≡ Some l) ⊎ ((j ≡ length (list_at old w)) × (link ≡ l)) → IsInField m a l.cross.0 l.wire.0 v
-      by_push e (inl h) = right v j l (subst (λ p. slice_get (list_at old p) j ≡ Some l) (sym e) h)
-      by_push e (inr h) = subst (IsInField m a l.cross.0 l.wire.0) (sym e) (subst (λ (z : Support). IsInField m a z.cross.0 z.wire.0 w) h.1 this)
-
-      by_wire : Dec (v ≡ w) → IsInField m a l.cross.0 l.wire.0 v
-      by_wire (yes e) = by_push e (get_pushed (list_at old w) link j l (subst (λ ls. slice_get ls j ≡ Some l) (ap (list_at new) e ∙ adds.this) here))
-      by_wire (no n) = right v j l (subst (λ ls. slice_get ls j ≡ Some l) (adds.others v n) here)
-
--- both links over a crosspoint of the field
-pub up_to_next : {m : Shape} {a : Field} {old mid new : List Near} {c : ℕ} {up down : Support} → c < crosses_of m → has_number a.crosses c ≡ true → (up.wire.0, down.wire.0) ≡ ends_of m c →
-    up.cross.0 ≡ c → down.cross.0 ≡ c → AddsLink old mid down.wire.0 up → AddsLink mid new up.wire.0 down → AreLinksUpTo m a old c → AreLinksUpTo m a new (c + 1)
-up_to_next {m} {a} {old} {mid} {new} {c} {up} {down} within on at one other first second before = record {
-  right = added_right second (added_right first before.right up_right) down_right;
-  whole = λ w x u less i. by_place w x u less i (ℕ_discrete x c);
-}
+pub right_pushed : {new : List Support} (m : Shape) (a : Field) (w : ℕ) (old : List Support) (link : Support) → new ≡ old ++ link ∷ [] → AreInField m a w old → IsInField m a link.cross.0 link.wire.0 w → AreInField m a w new
+right_pushed m a w old link pushed right this j l here = by (get_pushed old link j l (subst (λ ls. slice_get ls j ≡ Some l) pushed here))
   where
-    tap : (ends_of m c).0 ≡ up.wire.0
-    tap = ap (λ (p : ℕ × ℕ). p.0) (sym at)
+    by : (slice_get old j ≡ Some l) ⊎ ((j ≡ length old) × (link ≡ l)) → IsInField m a l.cross.0 l.wire.0 w
+    by (inl h) = right j l h
+    by (inr h) = subst (λ (z : Support). IsInField m a z.cross.0 z.wire.0 w) h.1 this
 
-    line : (ends_of m c).1 ≡ down.wire.0
-    line = ap (λ (p : ℕ × ℕ). p.1) (sym at)
+-- the crosspoint with the ends of one of a row is that one
+here_is : {m : Shape} {c : Across} {u n i x : ℕ} {r : Row} → HasCrosses m → IsRow m c u n r → i < across_of m c n → x < crosses_of m → ends_of m x ≡ ends_by c u (across_at m c n i) → x ≡ r.first + i * r.step
+here_is {i = i} {x = x} {r = r} crosses row low less e = crosses.one x (r.first + i * r.step) less (row.within i low) (e ∙ sym (row.ends i low))
 
-    up_right : IsInField m a up.cross.0 up.wire.0 down.wire.0
-    up_right = subst (λ x. IsInField m a x up.wire.0 down.wire.0) (sym one) (record { within = within; has = on; at = in_order tap line })
+-- what was listed of a row still is, and one crosspoint more of it, which isn't of the field
+pub listed_past : {m : Shape} {c : Across} {u n i : ℕ} {r : Row} (a : Field) (links : List Support) → HasCrosses m → IsRow m c u n r → i < across_of m c n → AreListed m a links c u n i → has_number a.crosses (r.first + i * r.step) ≡ false → AreListed m a links c u n (i + 1)
+listed_past {m} {c} {u} {n} {i} {r} a links crosses row low was off j x less = one_more (λ k. x < crosses_of m → ends_of m x ≡ ends_by c u (across_at m c n k) → has_number a.crosses x ≡ true → HasLink links x (across_at m c n k)) i (λ k before. was k x before)
+    (λ within e on. absurd (false≢true (sym off ∙ ap (has_number a.crosses) (sym (here_is crosses row low within e)) ∙ on))) j less
 
-    down_right : IsInField m a down.cross.0 down.wire.0 up.wire.0
-    down_right = subst (λ x. IsInField m a x down.wire.0 up.wire.0) (sym other) (record { within = within; has = on; at = turned tap line })
+-- .. or is, and was put
+pub listed_more : {m : Shape} {c : Across} {u n i : ℕ} {r : Row} {new : List Support} (a : Field) (old : List Support) (link : Support) → HasCrosses m → IsRow m c u n r → i < across_of m c n → AreListed m a old c u n i → new ≡ old ++ link ∷ [] →
+    link.cross.0 ≡ r.first + i * r.step → link.wire.0 ≡ across_at m c n i → AreListed m a new c u n (i + 1)
+listed_more {m} {c} {u} {n} {i} {r} {new} a old link crosses row low was pushed cross wire j x less = one_more (λ k. x < crosses_of m → ends_of m x ≡ ends_by c u (across_at m c n k) → has_number a.crosses x ≡ true → HasLink new x (across_at m c n k)) i
+    (λ k before within e on. more_pushed link pushed x (across_at m c n k) (was k x before within e on))
+    (λ within e on. subst (λ v. HasLink new x v) wire (subst (λ y. HasLink new y link.wire.0) (cross ∙ sym (here_is crosses row low within e)) (subst (λ ls. HasLink ls link.cross.0 link.wire.0) (sym pushed) (has_last old link)))) j less
 
-    has_up : HasLink (list_at new down.wire.0) c up.wire.0
-    has_up = subst (λ x. HasLink (list_at new down.wire.0) x up.wire.0) one (added_stays second down.wire.0 up.cross.0 up.wire.0 (added_has first))
+pub listed_first : (m : Shape) (a : Field) (links : List Support) (c : Across) (u n : ℕ) → AreListed m a links c u n 0
+listed_first m a links c u n i x less = absurd (let no : ⊥ = omega (arith, less) in no)
 
-    has_down : HasLink (list_at new up.wire.0) c down.wire.0
-    has_down = subst (λ x. HasLink (list_at new up.wire.0) x down.wire.0) other (added_has second)
+-- no crosspoint has such ends
+pub listed_none : (m : Shape) (a : Field) (links : List Support) (c : Across) (u n : ℕ) → MissesRow m c u n → AreListed m a links c u n (across_of m c n)
+listed_none m a links c u n misses i x less within e = absurd (misses i x less within e)
 
-    by_ends : (w u : ℕ) → Ends (ends_of m c) u w → HasLink (list_at new w) c u
-    by_ends w u (in_order s t) = subst (λ v. HasLink (list_at new w) c v) (sym tap ∙ s) (subst (λ v. HasLink (list_at new v) c up.wire.0) (sym line ∙ t) has_up)
-    by_ends w u (turned s t) = subst (λ v. HasLink (list_at new w) c v) (sym line ∙ t) (subst (λ v. HasLink (list_at new v) c down.wire.0) (sym tap ∙ s) has_down)
+-- what is listed still is
+pub listed_still : (m : Shape) (a : Field) {old new : List Support} (c : Across) (u n count : ℕ) → HasMore old new → AreListed m a old c u n count → AreListed m a new c u n count
+listed_still m a c u n count more was i x less within e on = more x (across_at m c n i) (was i x less within e on)
 
-    by_place : (w x u : ℕ) → x < c + 1 → IsInField m a x u w → Dec (x ≡ c) → HasLink (list_at new w) x u
-    by_place w x u less i (yes e) = subst (λ y. HasLink (list_at new w) y u) (sym e) (by_ends w u (subst (λ y. Ends (ends_of m y) u w) e i.at))
-    by_place w x u less i (no n) = added_stays second w x u (added_stays first w x u (before.whole w x u (omega (arith, less, n)) i))
+-- a link of a row leads to the wire
+pub link_in_field : {m : Shape} {a : Field} {c : Across} {u n i : ℕ} {r : Row} {w x : ℕ} → IsRow m c u n r → i < across_of m c n → x ≡ r.first + i * r.step → w ≡ across_at m c n i → has_number a.crosses x ≡ true → IsInField m a x w u
+link_in_field {m} {a} {c} {u} {n} {i} {r} {w} {x} row low cross wire on = subst (λ y. IsInField m a y w u) (sym cross) (subst (λ v. IsInField m a (r.first + i * r.step) v u) (sym wire) (record {
+  within = row.within i low;
+  has = ap (has_number a.crosses) (sym cross) ∙ on;
+  at = (between_across c (row.within i low) (row.ends i low)).at;
+}))
 
-pub linked_of : {m : Shape} {a : Field} {near : List Near} → AreLinks m a near → AreLinked m near
-linked_of {m} {a} {near} links = record {
-  within = λ x u w p. (in_field x u w p).within;
-  at = λ x u w p. (in_field x u w p).at;
-  turned = λ x u w p. let i = in_field x u w p in links.whole u x w (record { within = i.within; has = i.has; at = Ends-swap i.at });
-}
+-- the place of a node's line among its lines
+line_zero : {m : Shape} → HasRows m → (n j : ℕ) → line_at m n j ≡ line_at m n 0 → j ≡ 0
+line_zero {m} rows n j e = let at = rows.line n j in omega (arith, at, e)
+
+tap_zero : {m : Shape} → HasTaps m → (n j : ℕ) → n < nodes_of m → j < taps_of m n → tap_at m n j ≡ tap_at m n 0 → j ≡ 0
+tap_zero {m} taps n zero within low e = refl
+tap_zero {m} taps n (suc j) within low e = absurd (let more : 0 < suc j = omega arith in let up = taps.ascend n 0 (suc j) within more low in let no : ⊥ = omega (arith, up, e) in no)
+
+-- a crosspoint at a place of a node's crossbar, by its number
+number_here : {m : Shape} → HasCrosses m → HasRows m → (n c i j : ℕ) → c < crosses_of m → node_of_cross m c ≡ n → tap_position m c ≡ i → line_position m c ≡ j → c ≡ first_cross_of m n + i * lines_of m n + j
+number_here {m} crosses rows n c i j less at tap line =
+    sym (crosses.back c less) ∙ ap (λ k. cross_at m k (tap_position m c) (line_position m c)) at ∙ ap (λ k. cross_at m n k (line_position m c)) tap ∙ ap (cross_at m n i) line ∙ rows.cross n i j
+
+along : (f p i c : ℕ) → c ≡ f + p + 0 → c + i * 1 ≡ f + p + i
+along f p i c e = omega (arith, e)
+
+across_rows : (f l p j c : ℕ) → c ≡ f + 0 * l + j → c + p ≡ f + p + j
+across_rows f l p j c e = omega (arith, e)
+
+-- The crosspoints of a tap with the lines of a node, from the first one on.
+module _ {m : Shape} (tree : IsTree m) (crosses : HasCrosses m) (meetings : HasMeetings m) (rows : HasRows m) (sites : HasSites m) (n u line : ℕ) (node : n < nodes_of m) (is_first : line ≡ line_at m n 0) where
+  line_node_is : (x i : ℕ) → i < lines_of m n → x < crosses_of m → (ends_of m x).1 ≡ line_at m n i → node_of_cross m x ≡ n
+  line_node_is x i low less e = sym (tree.line_node (node_of_cross m x) (line_at m n i) (subst (IsLine m (node_of_cross m x)) e (meetings.line x less))) ∙ tree.line_node n (line_at m n i) (sites.line n i node low)
+
+  pub tap_row_is : (first : ℕ) → 0 < lines_of m n → (first < crosses_of m) × (ends_of m first ≡ (u, line)) → (r : Row) → r.first ≡ first → r.step ≡ 1 → IsRow m across.Lines u n r
+  tap_row_is first some found r begins step = record { within = λ i low. subst (λ x. x < crosses_of m) (sym (number i)) (rows.within n a i node a_low low); ends = λ i low. ap (ends_of m) (number i) ∙ rows.ends n a i node a_low low ∙ ap (λ w. (w, line_at m n i)) is_tap }
+    where
+      ends_first : ends_of m first ≡ (u, line_at m n 0)
+      ends_first = found.1 ∙ ap (λ w. (u, w)) is_first
+
+      at : node_of_cross m first ≡ n
+      at = line_node_is first 0 some found.0 (ap (λ (p : ℕ × ℕ). p.1) ends_first)
+
+      a : ℕ
+      a = tap_position m first
+
+      a_low : a < taps_of m n
+      a_low = subst (λ k. a < taps_of m k) at (crosses.tap first found.0)
+
+      here : ends_of m first ≡ (tap_at m n a, line_at m n (line_position m first))
+      here = ends_here m crosses first found.0 ∙ ap (λ k. (tap_at m k a, line_at m k (line_position m first))) at
+
+      is_tap : tap_at m n a ≡ u
+      is_tap = ap (λ (p : ℕ × ℕ). p.0) (sym here ∙ ends_first)
+
+      begin : line_position m first ≡ 0
+      begin = line_zero rows n (line_position m first) (ap (λ (p : ℕ × ℕ). p.1) (sym here ∙ ends_first))
+
+      number : (i : ℕ) → r.first + i * r.step ≡ first_cross_of m n + a * lines_of m n + i
+      number i = rw (begins, step) (along (first_cross_of m n) (a * lines_of m n) i first (number_here crosses rows n first a 0 found.0 at refl begin))
+
+  pub tap_row_none : 0 < lines_of m n → ((x : ℕ) → x < crosses_of m → ends_of m x ≢ (u, line)) → MissesRow m across.Lines u n
+  tap_row_none some none i x low less e = none met.0 met.1 (met.2 ∙ ap (λ w. (u, w)) (sym is_first))
+    where
+      at : node_of_cross m x ≡ n
+      at = line_node_is x i low less (ap (λ (p : ℕ × ℕ). p.1) e)
+
+      tap : IsTap m n u
+      tap = subst (λ k. IsTap m k u) at (subst (IsTap m (node_of_cross m x)) (ap (λ (p : ℕ × ℕ). p.0) e) (meetings.tap x less))
+
+      met : (y : ℕ) × (y < crosses_of m) × (ends_of m y ≡ (u, line_at m n 0))
+      met = let y = meetings.meet n u (line_at m n 0) tap (sites.line n 0 node some) in (y.0, y.1, y.2)
+
+-- The crosspoints of a line of its node with the taps, from the first one on.
+module _ {m : Shape} (tree : IsTree m) (crosses : HasCrosses m) (meetings : HasMeetings m) (rows : HasRows m) (taps : HasTaps m) (n u tap : ℕ) (node : n < nodes_of m) (home : n ≡ node_of m u) (is_first : tap ≡ tap_at m n 0) where
+  pub line_row_is : (first : ℕ) → (first < crosses_of m) × (ends_of m first ≡ (tap, u)) → (r : Row) → r.first ≡ first → r.step ≡ lines_of m n → IsRow m across.Taps u n r
+  line_row_is first found r begins step = record { within = λ i low. subst (λ x. x < crosses_of m) (sym (number i)) (rows.within n i b node low b_low); ends = λ i low. ap (ends_of m) (number i) ∙ rows.ends n i b node low b_low ∙ ap (λ w. (tap_at m n i, w)) is_line }
+    where
+      ends_first : ends_of m first ≡ (tap_at m n 0, u)
+      ends_first = found.1 ∙ ap (λ w. (w, u)) is_first
+
+      at : node_of_cross m first ≡ n
+      at = line_here m tree meetings first u n home found.0 (ap (λ (p : ℕ × ℕ). p.1) ends_first)
+
+      b : ℕ
+      b = line_position m first
+
+      b_low : b < lines_of m n
+      b_low = subst (λ k. b < lines_of m k) at (crosses.line first found.0)
+
+      here : ends_of m first ≡ (tap_at m n (tap_position m first), line_at m n b)
+      here = ends_here m crosses first found.0 ∙ ap (λ k. (tap_at m k (tap_position m first), line_at m k b)) at
+
+      is_line : line_at m n b ≡ u
+      is_line = ap (λ (p : ℕ × ℕ). p.1) (sym here ∙ ends_first)
+
+      begin : tap_position m first ≡ 0
+      begin = tap_zero taps n (tap_position m first) node (subst (λ k. tap_position m first < taps_of m k) at (crosses.tap first found.0)) (ap (λ (p : ℕ × ℕ). p.0) (sym here ∙ ends_first))
+
+      number : (i : ℕ) → r.first + i * r.step ≡ first_cross_of m n + i * lines_of m n + b
+      number i = rw (begins, step) (across_rows (first_cross_of m n) (lines_of m n) (i * lines_of m n) b first (number_here crosses rows n first 0 b found.0 at begin refl))
+
+  pub line_row_none : (count : ℕ) → count ≡ taps_of m n → count ≢ 0 → ((x : ℕ) → x < crosses_of m → ends_of m x ≢ (tap, u)) → MissesRow m across.Taps u n
+  line_row_none count many some none i x low less e =
+      line_not m taps meetings n tap u count node many some is_first none x less (line_here m tree meetings x u n home less (ap (λ (p : ℕ × ℕ). p.1) e)) (ap (λ (p : ℕ × ℕ). p.1) e)
+
+pub no_taps_row : (m : Shape) (u n count : ℕ) → count ≡ taps_of m n → count ≡ 0 → MissesRow m across.Taps u n
+no_taps_row m u n count many none i x low = absurd (let no : ⊥ = omega (arith, many, none, low) in no)
+
+-- all links of a wire
+abbrev Listed : Field → List Support → ℕ → ℕ → Type 0
+Listed a links x u = has_number a.crosses x ≡ true → HasLink links x u
+
+module _ {m : Shape} {a : Field} (w node : ℕ) {links : List Support} (tree : IsTree m) (crosses : HasCrosses m) (meetings : HasMeetings m) (home : node ≡ node_of m w) (right : AreInField m a w links) where
+  pub links_of_line : ((x : ℕ) → x < crosses_of m → (ends_of m x).0 ≢ w) → AreListed m a links across.Taps w node (taps_of m node) → AreLinksOf m a w links
+  links_of_line no_tap listed = record { right = right; whole = λ x u i. line_around (Listed a links) refl w node tree crosses meetings home no_tap listed x u i.within (Ends-swap i.at) i.has }
+
+  pub links_of_tap : HasParents m → ((x : ℕ) → x < crosses_of m → node_of_cross m x ≡ node → (ends_of m x).1 ≢ w) →
+      ((n : ℕ) → parent_of m node ≡ Some n → AreListed m a links across.Lines w n (lines_of m n)) → AreListed m a links across.Lines w node (lines_of m node) → AreLinksOf m a w links
+  links_of_tap parents no_line above here = record { right = right; whole = λ x u i. tap_around (Listed a links) refl w node tree crosses meetings home parents no_line above here x u i.within (Ends-swap i.at) i.has }
+
+-- a node without one above, and with one
+pub none_above : (m : Shape) (node : ℕ) {n : ℕ} → parent_of m node ≡ None → parent_of m node ≡ Some n → ⊥
+none_above m node {n} none up = by (sym none ∙ up)
   where
-    in_field : (x u w : ℕ) → Links near x u w → IsInField m a x u w
-    in_field x u w p = subst (λ y. IsInField m a y u w) p.cross (subst (λ v. IsInField m a p.link.cross.0 v w) p.wire (links.right w p.place p.link p.here))
+    by : ◌≡◌ {A = Option ℕ} None (Some n) → ⊥
+    by e = cc
 
--- the links of a field with all crosspoints are those of the machine
-pub links_whole : {m : Shape} {a : Field} {near : List Near} → AreLinks m a near → ((x : ℕ) → x < crosses_of m → has_number a.crosses x ≡ true) → AreAllLinks m near
-links_whole links all = record {
-  right = λ w j link here. let i = links.right w j link here in record { within = i.within; at = i.at };
-  whole = λ w x u b. links.whole w x u (record { within = b.within; has = all x b.within; at = b.at });
-}
-
-pub links_same : {m s : Shape} {near : List Near} → s ≡ m → AreAllLinks m near → AreAllLinks s near
-links_same {near = near} e links = subst (λ m. AreAllLinks m near) (sym e) links
+pub listed_above : (m : Shape) (a : Field) (links : List Support) (u node : ℕ) {p n : ℕ} → parent_of m node ≡ Some p → parent_of m node ≡ Some n → AreListed m a links across.Lines u p (lines_of m p) → AreListed m a links across.Lines u n (lines_of m n)
+listed_above m a links u node at up listed = subst (λ i. AreListed m a links across.Lines u i (lines_of m i)) (some_same (sym at ∙ up)) listed

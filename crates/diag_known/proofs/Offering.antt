@@ -1,5 +1,5 @@
 -- What an offer spends, one trial after the other.
-use Rattle.std.proofs.Common.{◌≡◌, ◌≢◌, ◌⊎◌, ℕ, ◌+◌, ◌<◌, ◌≤◌, true, false, Some, Option, List, refl, sym, ap, ◌∙◌, subst, inl, inr, arith, slice_get, slice_set}
+use Rattle.std.proofs.Common.{◌≡◌, ◌⊎◌, ℕ, ◌+◌, ◌<◌, ◌≤◌, true, false, Some, Option, List, refl, sym, ap, ◌∙◌, subst, inl, inr, arith, slice_set}
 use Rattle.diag_known.proofs.Vocabulary.{false≢true, set-set, has_number, Shape, Faults, holds_untried, Marks, Offer, Support, VerifiedWire}
 use Rattle.diag_evidence.specs.Kept.{Kept, HoldsFor, IsMore, keeps_cross}
 use Rattle.diag_known.specs.Vocabulary.{barred_pins, is_spent, AreMarks, AreMarksOver, IsOfOffer, OffersAtMost, OffersOnly, SpendsFew, SpendsOn, IsOffer, IsPlaced}

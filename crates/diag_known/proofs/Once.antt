@@ -1,5 +1,5 @@
 -- Wires that stand in a list once.
-use Rattle.std.proofs.Common.{◌≡◌, ◌≢◌, ℕ, zero, suc, ◌<◌, Bool, true, false, List, [], ◌∷◌, ◌++◌, length, get_or, sym, ◌∙◌, subst, arith, AllPairs}
+use Rattle.std.proofs.Common.{◌≡◌, ◌≢◌, ℕ, zero, suc, ◌<◌, true, false, List, [], ◌∷◌, ◌++◌, length, get_or, sym, ◌∙◌, subst, arith, AllPairs}
 use Rattle.diag_known.proofs.Vocabulary.{false≢true, nat_tests, among}
 use Rattle.std.proofs.lemmas.List.Quantifiers.{all_pairs_push}
 

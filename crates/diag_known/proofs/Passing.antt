@@ -1,5 +1,5 @@
 -- Toggles over routes of known wires pass.
-use Rattle.std.proofs.Common.{◌≡◌, ◌≢◌, ℕ, ◌<◌, Bool, true, false, None, Option, List, [], ◌∷◌, ◌++◌, refl, sym, ap, ◌∙◌, subst, inr, arith, slice_get, ◌==◌, ◌||◌}
+use Rattle.std.proofs.Common.{◌≡◌, ◌≢◌, ℕ, ◌<◌, Bool, true, false, None, Option, List, [], ◌∷◌, ◌++◌, refl, sym, ap, ◌∙◌, subst, inr, arith, ◌==◌, ◌||◌}
 use Rattle.diag_known.proofs.Vocabulary.{false≢true, nat_tests, Shape, Ends, in_order, turned, ends_of, crosses_of, Faults, stuck_cross}
 use Rattle.diag_known.proofs.Vocabulary.{Shorted, IsClear, Joined-sym, among, IsWithin, ends, goes, LeadsTo-end, Walk, among-push}
 use Rattle.diag_known.proofs.Vocabulary.{among_both, pair_turned, holds_earlier, untried_crosses, untried_wires, untried_pairs}

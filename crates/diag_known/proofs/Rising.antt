@@ -1,5 +1,5 @@
 -- Routes from two pins up along a descent.
-use Rattle.std.proofs.Common.{◌≡◌, ◌≢◌, ◌⊎◌, ℕ, ◌+◌, ◌<◌, Bool, true, false, Some, List, [], ◌∷◌, ◌++◌, refl, sym, ap, ◌∙◌, subst, inl, inr, arith, slice_get, ◌==◌, AllPairs}
+use Rattle.std.proofs.Common.{◌≡◌, ◌≢◌, ◌⊎◌, ℕ, ◌<◌, Bool, true, false, Some, List, [], ◌∷◌, ◌++◌, refl, sym, ap, ◌∙◌, subst, inl, inr, arith, slice_get, ◌==◌, AllPairs}
 use Rattle.diag_known.proofs.Vocabulary.{false≢true, nat_tests, Shape, among, LeadsTo-end, Walk, IsRoute, other_end, Extends, at_pin}
 use Rattle.diag_known.proofs.Vocabulary.{among-push, among_both, at_pin_is, Kept, keeps_cross, Down, Support, SupportedBy, VerifiedWire}
 use Rattle.machine_shape.specs.Shape.{Ends, in_order, turned, ends_of, pin_wire, crosses_of, wires_of}

@@ -1,9 +1,9 @@
 -- One more wire stands.
-use Rattle.std.proofs.Common.{◌≡◌, ◌≢◌, ◌⊎◌, ℕ, ◌<◌, ◌≤◌, Bool, true, false, Option, Some, None, List, [], ◌∷◌, ◌++◌, length, get_or, sym, ap, ◌∙◌, subst, inl, inr, arith, set, slice_get}
-use Rattle.diag_known.proofs.Vocabulary.{false≢true, get_or_past, get_or_read, has_number, Shape, Kept, Near, Support, VerifiedWire}
+use Rattle.std.proofs.Common.{◌≡◌, ◌≢◌, ◌⊎◌, ℕ, ◌<◌, Bool, true, false, Option, Some, None, List, [], ◌∷◌, ◌++◌, length, get_or, sym, ap, ◌∙◌, subst, inl, inr, arith, set, slice_get}
+use Rattle.diag_known.proofs.Vocabulary.{false≢true, get_or_past, get_or_read, has_number, Kept, Support, VerifiedWire}
 use native.Mathlib.Decide.{dec_lt}
-use Rattle.machine_shape.specs.Vocabulary.{pin_wire, pins_of, wires_of, IsNumbered}
-use Rattle.diag_known.specs.Vocabulary.{KnownWires, IsAt, HasWire, Stands, on_pin, on_feet, InSet, IsBetween, foot_at, IsFootTo, IsGround, IsSettled, Founds, AreSettled}
+use Rattle.machine_shape.specs.Vocabulary.{pin_wire, pins_of, wires_of}
+use Rattle.diag_known.specs.Vocabulary.{KnownWires, HasWire, Stands, on_pin, on_feet, InSet, foot_at, IsFootTo, IsGround, IsSettled, Founds}
 use Rattle.diag_known.specs.declared.verified_wire.SupportedBy.TheVariants as stand
 use Rattle.diag_known.proofs.Grounding.{ground_then, ground_foot, founds_foot, settled_foot, founds_one, taken_now, foot_is}
 
@@ -58,18 +58,6 @@ module _ {k : Kept} {n : KnownWires} {left : List Bool} {feet : List (Option Sup
   -- or a second one, that leads to another wire
   pub second_stands : {a b : Support} → o ≡ Some a → IsFootTo k n.steps w b → a.wire.0 ≢ b.wire.0 → Stands k n.steps (length n.steps) w (stand.Feet a b)
   second_stands {a} is foot differ = feet_stand n (g.found w a (foot_read feet w o room read ∙ is)) foot differ
-
--- what stood at a place still stands
-pub has_still_there : {n m : KnownWires} {left rest : List Bool} {feet more : List (Option Support)} {i w : ℕ} → Founds n m left rest feet more → IsAt n.steps i w → HasWire m.steps w
-has_still_there {i = i} {w = w} f at = record { place = i; at = f.stays i w at }
-
--- a link leads to a wire of the machine
-pub link_within : {m : Shape} (x u w : ℕ) → IsNumbered m → IsBetween m x u w → u < wires_of m
-link_within x u w numbered b = numbered.ends x u w b.within b.at
-
--- all places were looked at
-pub settled_at_all : (k : Kept) (near : List Near) (n : KnownWires) (left : List Bool) (feet : List (Option Support)) (place : ℕ) → AreSettled k near n left feet place → length n.steps ≤ place → AreSettled k near n left feet (length n.steps)
-settled_at_all k near n left feet place s le w x u b link kept = s w x u (record { place = b.place; early = (let e = b.early in omega (arith, e, le)); at = b.at }) link kept
 
 -- nothing stood, so what stands is of those that were left
 pub no_wire : (n : KnownWires) → n.steps ≡ [] → (w : ℕ) → ¬ HasWire n.steps w

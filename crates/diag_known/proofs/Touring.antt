@@ -1,11 +1,10 @@
 -- Walks over the trees that are reached beside a route.
-use Rattle.std.proofs.Common.{◌≡◌, ◌≢◌, ◌⊎◌, ℕ, zero, suc, ◌+◌, ◌<◌, Bool, true, false, Some, List, [], ◌∷◌, ◌++◌, length, refl, sym, ap, ◌∙◌, subst, inl, inr, arith, get_or, set, slice_get}
+use Rattle.std.proofs.Common.{◌≡◌, ◌⊎◌, ℕ, zero, suc, ◌+◌, ◌<◌, Bool, true, false, Some, List, [], ◌∷◌, ◌++◌, length, refl, sym, ap, ◌∙◌, subst, inl, inr, arith, get_or, set, slice_get}
 use Rattle.diag_known.proofs.Vocabulary.{false≢true, slice_get-get_or, Wire, Ends, in_order, turned, ends_of, crosses_of, pin_wire, among}
 use Rattle.diag_known.proofs.Vocabulary.{LeadsTo-end, Walk, IsRoute, other_end, Extends, at_pin, among-push, among_both, Kept, keeps_cross}
 use Rattle.diag_known.proofs.Vocabulary.{Reach, Down, Support, SupportedBy, VerifiedWire}
 use native.Mathlib.Decide.{dec_lt}
-use Rattle.diag_known.specs.Vocabulary.{KnownWires, IsAt, IsBefore, HasWire, IsFoot, IsKnown, IsPin, IsPinAt, IsPinHere, Stays, reach_at, IsFrom, HangsOn, own, by_first, by_second, AreTrees, IsTie, HangsAt, IsFromAt, HangsAlong, Hangs, IsTreeWalk, GoesOn, GoesBelow, GoesTo, AreBefore, Leads, HasTree, AreTreeWalks, IsOnWalk, StayOn, upper_of}
-use Rattle.diag_known.specs.declared.beside.Reach.TheVariants as reach
+use Rattle.diag_known.specs.Vocabulary.{KnownWires, IsAt, IsBefore, HasWire, IsFoot, IsKnown, IsPin, IsPinAt, IsPinHere, Stays, IsFrom, HangsOn, own, by_first, by_second, AreTrees, IsTie, HangsAt, IsFromAt, HangsAlong, Hangs, IsTreeWalk, GoesOn, GoesBelow, GoesTo, AreBefore, Leads, HasTree, AreTreeWalks, IsOnWalk, StayOn, upper_of}
 use Rattle.diag_known.specs.declared.verified_wire.SupportedBy.TheVariants as stand
 use Rattle.diag_known.proofs.Places.{one_place, some_same, before_has, feet_here, pin_here, at_one, both_pins, get_before, get_last, get_pushed}
 use Rattle.diag_known.proofs.Rising.{foot_end, among_one}

@@ -1,5 +1,5 @@
 -- Two ways to a wire, from two routes to its feet.
-use Rattle.std.proofs.Common.{◌≡◌, ◌≢◌, ◌⊎◌, ℕ, true, false, Some, List, [], ◌∷◌, ◌++◌, refl, sym, ap, ◌∙◌, subst, inl, inr, slice_get}
+use Rattle.std.proofs.Common.{◌≡◌, ◌≢◌, ◌⊎◌, ℕ, true, Some, List, [], ◌∷◌, ◌++◌, refl, sym, ap, ◌∙◌, subst, inl, inr, slice_get}
 use Rattle.diag_known.proofs.Vocabulary.{false≢true, Shape, Ends, ends_of, pin_wire, among, Walk, IsRoute, Extends, at_pin, other_end}
 use Rattle.diag_known.proofs.Vocabulary.{among_both, among-push, Kept, keeps_cross, Support, SupportedBy, VerifiedWire}
 use Rattle.diag_known.specs.Vocabulary.{KnownWires, IsAt, IsFoot, HasWire, IsKnown, IsPin, HasFootOn, first, second, RestsOn, IsEarly, AreRoutesTo, IsWay, AreWays, AreFeetOf}

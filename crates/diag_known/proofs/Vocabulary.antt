@@ -28,13 +28,12 @@ pub use Rattle.diag_evidence.proofs.KeptLemmas.{mark_set, no_mark, pair_apart, p
 pub use Rattle.diag_evidence.proofs.Lists.{grown, loop_of_lists, or_third}
 pub use Rattle.diag_known.specs.declared.beside.Reach.{Reach}
 pub use Rattle.diag_known.specs.declared.descents.Down.{Down}
-pub use Rattle.diag_known.specs.declared.links.Near.{Near}
 pub use Rattle.diag_known.specs.declared.marks.Marks.{Marks}
 pub use Rattle.diag_known.specs.declared.offers.Offer.{Offer}
 pub use Rattle.diag_known.specs.declared.verified_wire.Support.{Support}
 pub use Rattle.diag_known.specs.declared.verified_wire.SupportedBy.{SupportedBy}
 pub use Rattle.diag_known.specs.declared.verified_wire.VerifiedWire.{VerifiedWire}
-pub use Rattle.diag_known.specs.Vocabulary.{Adds, AreLinksUpTo, AreLost, AreRanks, AreSettled, AreTreeWalks, AreTwo, AreWays, Descends}
+pub use Rattle.diag_known.specs.Vocabulary.{Adds, AreLost, AreRanks, AreTreeWalks, AreTwo, AreWays, Descends}
 pub use Rattle.diag_known.specs.Vocabulary.{Founds, HangsOnNone, HasWire, InSome, IsAt, IsFit, IsFrom, IsFromAt, IsGround, IsHung}
 pub use Rattle.diag_known.specs.Vocabulary.{IsKeptUnlessStuck, IsLost, IsOn, IsOnWalk, IsPin, IsReached, IsTried, KnownWires, TakesFew}
-pub use Rattle.diag_known.specs.Vocabulary.{fresh, how_many, is_pin, list_at, pins_in, rank_in, reach_at, upper_of}
+pub use Rattle.diag_known.specs.Vocabulary.{fresh, how_many, is_pin, pins_in, rank_in, reach_at, upper_of}

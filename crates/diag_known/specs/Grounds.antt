@@ -1,22 +1,17 @@
 -- Which of some wires stand by kept crosspoints, as they are found one after the other.
 use Rattle.std.specs.Prelude.{◌≡◌, ◌≢◌, ◌⊎◌, ℕ, ◌+◌, ◌<◌, ◌≤◌, Bool, true, false, Option, Some, None, List}
-use Rattle.std.specs.Prelude.{length, slice_get, slice_index_or}
+use Rattle.std.specs.Prelude.{length, slice_index_or}
 use Rattle.base_bits.specs.Numbers.{has_number, size_of}
 use Rattle.machine_shape.specs.{declared.Shape.Shape, Shape.Ends, Shape.ends_of, Shape.crosses_of, Shape.wires_of}
 use Rattle.diag_evidence.specs.Kept.{Kept, is_apart, keeps_cross, keeps_wire, keeps_pair}
-use Rattle.diag_known.specs.Known.{KnownWires, IsAt, IsBefore, HasWire, IsKnown, InSet}
-use Rattle.diag_known.specs.{Linked.list_at, Linked.HasLink, declared.links.Near.Near, declared.verified_wire.VerifiedWire.VerifiedWire}
+use Rattle.diag_known.specs.Known.{KnownWires, IsAt, HasWire, IsKnown, InSet}
+use Rattle.diag_known.specs.declared.verified_wire.VerifiedWire.{VerifiedWire}
 use Rattle.diag_known.specs.declared.verified_wire.Support.{Support}
 
 -- the crosspoint leads from the one wire to the other
 pub record IsBetween (m : Shape) (x u w : ℕ) : Type 0 where
   pub within : x < crosses_of m
   pub at : Ends (ends_of m x) u w
-
--- for each wire the crosspoints of the machine that lead to it, with their other ends
-pub record AreAllLinks (m : Shape) (near : List Near) : Type 0 where
-  pub right : (w j : ℕ) (link : Support) → slice_get (list_at near w) j ≡ Some link → IsBetween m link.cross.0 link.wire.0 w
-  pub whole : (w x u : ℕ) → IsBetween m x u w → HasLink (list_at near w) x u
 
 -- the foot that was found of a wire
 abbrev pub foot_at : List (Option Support) → ℕ → Option Support
@@ -54,8 +49,3 @@ pub record Founds (n m : KnownWires) (left rest : List Bool) (feet more : List (
   pub less : (w : ℕ) → InSet rest w → InSet left w
   pub grows : length n.steps ≤ length m.steps
   pub count : size_of rest + length m.steps ≡ size_of left + length n.steps
-
--- each link that leads by a kept crosspoint from one of the first n wires that stand is settled
-abbrev pub AreSettled : Kept → List Near → KnownWires → List Bool → List (Option Support) → ℕ → Type 0
-AreSettled k near known left feet n = (w x u : ℕ) → IsBefore known.steps n u → HasLink (list_at near u) x w → keeps_cross k x ≡ true →
-    IsSettled left feet w u

@@ -6,9 +6,9 @@ pub mod Gains
 -- For the bodies of this crate and of those on it.
 pub mod Descents
 pub mod Ways
-pub mod Linked
 pub mod Grounds
 pub mod Around
+pub mod Linked
 pub mod Ranks
 -- What is reached, what trials tell, and what marks stand for.
 pub mod Reaches

@@ -1,102 +1,173 @@
-//! The links of a field: for each wire the crosspoints that lead to it, with their other ends.
-ghost use Rattle.std.specs.Prelude.{◌≡◌, ◌<◌, ◌+◌, [], ℕ, IfOk, OnOk, length, slice_get};
-ghost use Rattle.machine_shape.specs.Shape.{crosses_of, wires_of};
+//! The links of a wire in a field: the crosspoints that lead to it, with their other ends.
+//!
+//! No list is kept of them, as it takes 16 bytes or more for each crosspoint: what a wire crosses follows from its node, and its crosspoints
+//! with the lines of a node, or with the taps, stand one every so many.
+ghost use Rattle.std.specs.Prelude.{◌≡◌, ◌≢◌, ◌<◌, ℕ, Some, IfNone, IfOk, IfSome, OnOk};
+ghost use Rattle.machine_shape.specs.Shape.{crosses_of, ends_of, node_of, node_of_cross, nodes_of, parent_of, wires_of};
+ghost use Rattle.diag_known.specs.Around.{across_of};
 ghost use Rattle.diag_known.specs.Field.{IsFieldOf};
-ghost use Rattle.diag_known.specs.Linked.{AddsLink, AreLinks, AreLinksUpTo, list_at};
+ghost use Rattle.diag_known.specs.Linked.{AreInField, AreLinksOf, AreListed, HasMore, IsRow, MissesRow};
+ghost use Rattle.diag_known.specs.declared.looks.Across.TheVariants as across;
 
 use crate::field::Field;
+use crate::looks::{Across, Look, is_line, width, wire_across};
 use crate::verified_wire::Support;
-use machine_shape::{Cross, Shape, Wire};
+use machine_shape::{
+    Cross, Node, Shape, Wire, crosspoints_stand_in_rows, ports_and_lines_ascend,
+    the_crosspoints_are_sound, the_numbering_is_sound,
+};
 use std::alloc::{AllocError, Global};
 
-/// The links of one wire.
-#[derive(Drop)]
-pub struct Near {
-    pub links: Vec<Support>,
+/// The crosspoints of a wire with the lines or the taps of a node, in the order of these: the number of the first, and how far it is from
+/// each to the next.
+#[derive(Clone, Copy, Debug)]
+pub(crate) struct Row {
+    pub first: u32,
+    pub step: u32,
 }
 
-// No links, for each wire.
-fn no_links(alloc: Global, wires: u32) -> Result<Vec<Near>, AllocError>
-    ensures len { IfOk result (λ near. length near.items ≡ wires) }
-    ensures none { IfOk result (λ near. (w : ℕ) → list_at near.items w ≡ []) }
+// The crosspoints of a tap of a node with its lines. None where it is no tap of it.
+fn tap_row(shape: &Shape, tap: Wire, node: Node) -> Option<Row>
+    requires node { node.0 < nodes_of shape.now }
+    requires tap { tap.0 < wires_of shape.now }
+    ensures row { IfSome result (IsRow shape.now across.Lines tap.0 node.0) }
+    ensures none { IfNone result (MissesRow shape.now across.Lines tap.0 node.0) }
 {
-    let mut near = Vec::new(alloc);
-    'wires: for w in 0..wires {
-        let _ = w;
-        near.push(Near {
-            links: Vec::new(alloc),
-        })?;
-    }
-    Ok(near)
-}
-
-// Adds a link of a wire.
-fn add_link(near: &mut Vec<Near>, w: Wire, link: Support) -> Result<(), AllocError>
-    requires { w.0 < length near.old.items }
-    ensures len { OnOk result (length near.new.items ≡ length near.old.items) }
-    ensures adds { OnOk result (AddsLink near.old.items near.new.items w.0 link) }
-{
-    near[w.0 as usize].links.push(link)?;
-    Ok(())
-}
-
-// Adds the links over a crosspoint, if it is of the field.
-fn add_cross(near: &mut Vec<Near>, shape: &Shape, field: &Field, c: Cross) -> Result<(), AllocError>
-    requires cross { c.0 < crosses_of shape.now }
-    requires len { length near.old.items ≡ wires_of shape.now }
-    requires field { IsFieldOf shape.now field.now }
-    requires links { AreLinksUpTo shape.now field.now near.old.items c.0 }
-    ensures len { OnOk result (length near.new.items ≡ wires_of shape.now) }
-    ensures links { OnOk result (AreLinksUpTo shape.now field.now near.new.items (c.0 + 1)) }
-{
-    if !field.crosses.has(c.0) {
-        return Ok(());
-    }
-    let (tap, line) = shape.ends(c);
-    let up = Support {
-        cross: c,
-        wire: tap,
-    };
-    let down = Support {
-        cross: c,
-        wire: line,
-    };
-    add_link(near, line, up)?;
-    add_link(near, tap, down)?;
-    Ok(())
-}
-
-/// The links of each wire.
-pub fn links_of(alloc: Global, shape: &Shape, field: &Field) -> Result<Vec<Near>, AllocError>
-    requires field { IsFieldOf shape.now field.now }
-    ensures { IfOk result (λ near. AreLinks shape.now field.now near.items) }
-{
-    let mut near = no_links(alloc, shape.wires())?;
-    'crosses: for c in 0..shape.crosses() {
-        add_cross(&mut near, shape, field, Cross(c))?;
-    }
-    Ok(near)
-}
-
-/// How many links a wire has.
-pub fn link_count(near: &Vec<Near>, w: Wire) -> usize
-    ensures { result ≡ length (list_at near.now.items w.0) }
-{
-    match near.get(w.0 as usize) {
-        Some(list) => list.links.len(),
-        None => 0,
-    }
-}
-
-/// A link of a wire.
-pub fn link_at(near: &Vec<Near>, w: Wire, j: usize) -> Option<Support>
-    ensures { result ≡ slice_get (list_at near.now.items w.0) j }
-{
-    match near.get(w.0 as usize) {
-        Some(list) => match list.links.get(j) {
-            Some(link) => Some(*link),
-            None => None,
-        },
+    the_numbering_is_sound();
+    the_crosspoints_are_sound();
+    crosspoints_stand_in_rows();
+    ports_and_lines_ascend();
+    let _lines = shape.lines(node);
+    match shape.cross(tap, shape.line(node, 0)) {
+        Some(first) => Some(Row {
+            first: first.0,
+            step: 1,
+        }),
         None => None,
     }
+}
+
+// The crosspoints of a line of its node with the taps. None where it is no line.
+fn line_row(shape: &Shape, line: Wire, node: Node) -> Option<Row>
+    requires node { node.0 < nodes_of shape.now }
+    requires line { line.0 < wires_of shape.now }
+    requires home { node.0 ≡ node_of shape.now line.0 }
+    ensures row { IfSome result (IsRow shape.now across.Taps line.0 node.0) }
+    ensures none { IfNone result (MissesRow shape.now across.Taps line.0 node.0) }
+{
+    the_numbering_is_sound();
+    the_crosspoints_are_sound();
+    crosspoints_stand_in_rows();
+    if shape.taps(node) == 0 {
+        return None;
+    }
+    match shape.cross(shape.tap(node, 0), line) {
+        Some(first) => Some(Row {
+            first: first.0,
+            step: shape.lines(node),
+        }),
+        None => None,
+    }
+}
+
+// The crosspoints of a wire with the lines or the taps of a node, with the taps of its own alone.
+fn row_of(shape: &Shape, look: Look, node: Node) -> Option<Row>
+    requires node { node.0 < nodes_of shape.now }
+    requires from { look.from.0 < wires_of shape.now }
+    requires home { look.across ≡ across.Taps → node.0 ≡ node_of shape.now look.from.0 }
+    ensures row { IfSome result (IsRow shape.now look.across look.from.0 node.0) }
+    ensures none { IfNone result (MissesRow shape.now look.across look.from.0 node.0) }
+{
+    match look.across {
+        Across::Lines => tap_row(shape, look.from, node),
+        Across::Taps => line_row(shape, look.from, node),
+    }
+}
+
+// Puts the links over those crosspoints of a wire with the lines or the taps of a node that are of the field.
+fn put_row(
+    links: &mut Vec<Support>,
+    shape: &Shape,
+    field: &Field,
+    look: Look,
+    node: Node,
+) -> Result<(), AllocError>
+    requires field { IsFieldOf shape.now field.now }
+    requires node { node.0 < nodes_of shape.now }
+    requires from { look.from.0 < wires_of shape.now }
+    requires home { look.across ≡ across.Taps → node.0 ≡ node_of shape.now look.from.0 }
+    requires right { AreInField shape.now field.now look.from.0 links.old.items }
+    ensures right { OnOk result (AreInField shape.now field.now look.from.0 links.new.items) }
+    ensures stays { OnOk result (HasMore links.old.items links.new.items) }
+    ensures listed { OnOk result (AreListed shape.now field.now links.new.items look.across look.from.0 node.0
+        (across_of shape.now look.across node.0)) }
+{
+    the_crosspoints_are_sound();
+    let _crosses = shape.crosses();
+    let Some(row) = row_of(shape, look, node) else {
+        return Ok(());
+    };
+    'places: for place in 0..width(shape, look.across, node) {
+        let cross = Cross(row.first + place * row.step);
+        if !field.crosses.has(cross.0) {
+            continue;
+        }
+        let wire = wire_across(shape, look.across, node, place);
+        links.push(Support { cross, wire })?;
+    }
+    Ok(())
+}
+
+// Puts the links of a tap: to the lines of the node above, and to those of its own.
+fn put_rows(
+    links: &mut Vec<Support>,
+    shape: &Shape,
+    field: &Field,
+    tap: Wire,
+    node: Node,
+) -> Result<(), AllocError>
+    requires field { IsFieldOf shape.now field.now }
+    requires node { node.0 < nodes_of shape.now }
+    requires tap { tap.0 < wires_of shape.now }
+    requires right { AreInField shape.now field.now tap.0 links.old.items }
+    ensures right { OnOk result (AreInField shape.now field.now tap.0 links.new.items) }
+    ensures above { OnOk result ((n : ℕ) → parent_of shape.now node.0 ≡ Some n → AreListed shape.now field.now links.new.items across.Lines
+        tap.0 n (across_of shape.now across.Lines n)) }
+    ensures here { OnOk result (AreListed shape.now field.now links.new.items across.Lines tap.0 node.0
+        (across_of shape.now across.Lines node.0)) }
+{
+    let look = Look {
+        from: tap,
+        across: Across::Lines,
+    };
+    let Some(above) = shape.parent(node) else {
+        return put_row(links, shape, field, look, node);
+    };
+    put_row(links, shape, field, look, above)?;
+    put_row(links, shape, field, look, node)
+}
+
+/// The links of a wire: the crosspoints of the field that lead to it, with their other ends, in the order of their numbers. Wants memory,
+/// 8 bytes for each.
+pub fn links_of(
+    alloc: Global,
+    shape: &Shape,
+    field: &Field,
+    wire: Wire,
+) -> Result<Vec<Support>, AllocError>
+    requires field { IsFieldOf shape.now field.now }
+    requires wire { wire.0 < wires_of shape.now }
+    ensures { IfOk result (λ links. AreLinksOf shape.now field.now wire.0 links.items) }
+{
+    the_numbering_is_sound();
+    the_crosspoints_are_sound();
+    let mut links = Vec::new(alloc);
+    let node = shape.node_of(wire);
+    if is_line(shape, wire, node) {
+        let across = Across::Taps;
+        put_row(&mut links, shape, field, Look { from: wire, across }, node)?;
+        return Ok(links);
+    }
+    put_rows(&mut links, shape, field, wire, node)?;
+    Ok(links)
 }

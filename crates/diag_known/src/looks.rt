@@ -1,5 +1,4 @@
-//! Which of some wires stand by kept crosspoints alone, without a list of the machine's links: that takes 16 bytes or more for each
-//! crosspoint. What a wire crosses follows from its node.
+//! Which of some wires stand by kept crosspoints alone, without a list of the machine's links: what a wire crosses follows from its node.
 ghost use Rattle.std.specs.Prelude.{◌≡◌, ◌≢◌, ◌<◌, ◌+◌, ℕ, false, Some, IfNone, IfOk, IfSome, IsTrue, OnOk, length};
 ghost use Rattle.machine_shape.specs.Shape.{crosses_of, ends_of, node_of_cross, nodes_of, parent_of, wires_of};
 ghost use Rattle.machine_meaning.specs.Standing.{StandsBy};
@@ -33,7 +32,7 @@ pub(crate) struct Look {
 }
 
 // How many lines or taps a node has.
-fn width(shape: &Shape, across: Across, node: Node) -> u32
+pub(crate) fn width(shape: &Shape, across: Across, node: Node) -> u32
     requires { node.0 < nodes_of shape.now }
     ensures { result ≡ across_of shape.now across node.0 }
 {
@@ -44,7 +43,7 @@ fn width(shape: &Shape, across: Across, node: Node) -> u32
 }
 
 // A line or tap of a node.
-fn wire_across(shape: &Shape, across: Across, node: Node, place: u32) -> Wire
+pub(crate) fn wire_across(shape: &Shape, across: Across, node: Node, place: u32) -> Wire
     requires node { node.0 < nodes_of shape.now }
     requires place { place < across_of shape.now across node.0 }
     ensures wire { result.0 ≡ across_at shape.now across node.0 place }
@@ -157,7 +156,7 @@ fn take_rows(
 }
 
 // Whether a wire is a line of its node.
-fn is_line(shape: &Shape, w: Wire, node: Node) -> bool
+pub(crate) fn is_line(shape: &Shape, w: Wire, node: Node) -> bool
     requires node { node.0 < nodes_of shape.now }
     requires wire { w.0 < wires_of shape.now }
     ensures yes { IsTrue result → (x : ℕ) → x < crosses_of shape.now → (ends_of shape.now x).0 ≢ w.0 }

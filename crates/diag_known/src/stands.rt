@@ -1,19 +1,16 @@
-//! Which of some wires stand by kept crosspoints alone. No load is made for it.
-ghost use Rattle.std.specs.Prelude.{◌≡◌, ◌<◌, ◌+◌, ℕ, true, false, IfOk, OnOk, length, replicate, None};
+//! Wires that stand by kept crosspoints alone, one by one. No load is made for it.
+ghost use Rattle.std.specs.Prelude.{◌≡◌, ◌<◌, ℕ, true, false, IfOk, OnOk, replicate, None};
 ghost use Rattle.base_bits.specs.Numbers.{has_number};
 ghost use Rattle.machine_shape.specs.Shape.{pins_of, pin_wire, wires_of};
-ghost use Rattle.machine_meaning.specs.Standing.{StandsBy};
 ghost use Rattle.diag_evidence.specs.Kept.{keeps_cross};
-ghost use Rattle.diag_known.specs.Known.{IsKeptCrossOf, IsKnown, HasWire, AreApart, InSet};
-ghost use Rattle.diag_known.specs.Grounds.{AreAllLinks, AreSettled, Founds, IsBetween, IsGround, IsSettled};
+ghost use Rattle.diag_known.specs.Known.{HasWire};
+ghost use Rattle.diag_known.specs.Grounds.{Founds, IsBetween, IsGround, IsSettled};
 
-use crate::field::Field;
 use crate::known::Known;
-use crate::links::{Near, link_at, link_count, links_of};
 use crate::verified_wire::{Support, SupportedBy, VerifiedWire};
 use base_bits::BitSet;
 use diag_evidence::Facts;
-use machine_shape::{Pin, Shape, Wire, the_numbering_is_sound};
+use machine_shape::{Pin, Wire};
 use std::alloc::{AllocError, Global};
 
 // No foot, for each wire.
@@ -111,85 +108,4 @@ pub(crate) fn take_link(
     })?;
     left.remove(wire.0);
     Ok(())
-}
-
-// Takes all links of the wire that stands at a place.
-fn look_from(
-    known: &mut Known,
-    left: &mut BitSet,
-    feet: &mut Vec<Option<Support>>,
-    facts: &Facts,
-    near: &Vec<Near>,
-    place: usize,
-) -> Result<(), AllocError>
-    requires ground { IsGround facts.now known.old left.old feet.old.items }
-    requires place { place < length known.old.steps }
-    requires links { AreAllLinks facts.now.shape near.now.items }
-    requires settled { AreSettled facts.now near.now.items known.old left.old feet.old.items place }
-    ensures ground { OnOk result (IsGround facts.now known.new left.new feet.new.items) }
-    ensures founds { OnOk result (Founds known.old known.new left.old left.new feet.old.items feet.new.items) }
-    ensures settled { OnOk result (AreSettled facts.now near.now.items known.new left.new feet.new.items (place + 1)) }
-{
-    the_numbering_is_sound();
-    let from = known.wire_at(place);
-    'links: for j in 0..link_count(near, from) {
-        let Some(link) = link_at(near, from, j) else {
-            continue;
-        };
-        take_link(known, left, feet, facts, from, link)?;
-    }
-    Ok(())
-}
-
-// Takes all links of each wire that stands.
-fn look_from_all(
-    known: &mut Known,
-    left: &mut BitSet,
-    feet: &mut Vec<Option<Support>>,
-    facts: &Facts,
-    near: &Vec<Near>,
-) -> Result<(), AllocError>
-    requires ground { IsGround facts.now known.old left.old feet.old.items }
-    requires links { AreAllLinks facts.now.shape near.now.items }
-    ensures ground { OnOk result (IsGround facts.now known.new left.new feet.new.items) }
-    ensures founds { OnOk result (Founds known.old known.new left.old left.new feet.old.items feet.new.items) }
-    ensures settled { OnOk result (AreSettled facts.now near.now.items known.new left.new feet.new.items (length known.new.steps)) }
-{
-    let mut place = 0;
-    'places: while place < known.len() {
-        look_from(known, left, feet, facts, near, place)?;
-        place += 1;
-    }
-    Ok(())
-}
-
-/// The links of all crosspoints of a machine.
-pub fn all_links(alloc: Global, shape: &Shape) -> Result<Vec<Near>, AllocError>
-    ensures { IfOk result (λ near. AreAllLinks shape.now near.items) }
-{
-    let field = Field::whole(alloc, shape)?;
-    links_of(alloc, shape, &field)
-}
-
-/// Those of some wires that stand by kept crosspoints alone, over the links of the machine.
-pub fn stand_on(
-    alloc: Global,
-    facts: &Facts,
-    wires: BitSet,
-    near: &Vec<Near>,
-) -> Result<Known, AllocError>
-    requires apart { AreApart facts.now wires }
-    requires links { AreAllLinks facts.now.shape near.now.items }
-    ensures known { IfOk result (IsKnown facts.now) }
-    ensures within { IfOk result (λ known. (w : ℕ) → HasWire known.steps w → InSet wires w) }
-    ensures whole { IfOk result (λ known. (w : ℕ) → StandsBy facts.now.shape (InSet wires) (IsKeptCrossOf facts.now) w
-        → HasWire known.steps w) }
-{
-    let shape = facts.shape();
-    let mut left = wires;
-    let mut known = Known::new(alloc, &shape)?;
-    let mut feet = no_feet(alloc, shape.wires())?;
-    take_pins(&mut known, &mut left, &feet, facts)?;
-    look_from_all(&mut known, &mut left, &mut feet, facts, near)?;
-    Ok(known)
 }

@@ -6,10 +6,10 @@ use Rattle.diag_growth.proofs.Stages.{grows_itself, tried_none}
 use Rattle.diag_growth.proofs.look.look_over.Goals as goal
 
 pub place_of-requires : goal.place_of-requires
-place_of-requires g c = subst (λ (m : Shape). c.args.look.link.wire.0 < wires_of m) (sym c.requires.known.shape) (look_other c.requires.known (c.the_numbering_is_sound.ensures.numbered c.args.facts.now.shape) c.requires.links c.requires.look)
+place_of-requires g c = subst (λ (m : Shape). c.args.look.link.wire.0 < wires_of m) (sym c.requires.known.shape) (look_other c.requires.known (c.the_numbering_is_sound.ensures.numbered c.args.facts.now.shape) c.requires.look)
 
 pub has-requires : goal.has-requires
-has-requires g c = subst (λ n. c.args.look.link.wire.0 < n) (sym c.requires.marks.barred) (look_other c.requires.known (c.the_numbering_is_sound.ensures.numbered c.args.facts.now.shape) c.requires.links c.requires.look)
+has-requires g c = subst (λ n. c.args.look.link.wire.0 < n) (sym c.requires.marks.barred) (look_other c.requires.known (c.the_numbering_is_sound.ensures.numbered c.args.facts.now.shape) c.requires.look)
 
 pub returns-then-has-clause-grows : goal.returns-then-has-clause-grows
 returns-then-has-clause-grows g c = grows_itself c.requires.known (more_itself c.args.facts.now) c.requires.all refl
@@ -25,7 +25,7 @@ returns-then-other-look-clause-looked_each g c =
     λ f e marks. looked_known (record { place = c.in-Some.other; at = c.in-Some.ensures.known }) (λ before. absurd (not_earlier c.requires.known c.in-Some.ensures.known (omega arith) before))
 
 pub look_known-requires-clause-look : goal.look_known-requires-clause-look
-look_known-requires-clause-look g c = look_plain c.requires.known (c.the_numbering_is_sound.ensures.numbered c.args.facts.now.shape) c.requires.links c.requires.look
+look_known-requires-clause-look g c = look_plain c.requires.known (c.the_numbering_is_sound.ensures.numbered c.args.facts.now.shape) c.requires.look
 
 pub look_known-requires-clause-other : goal.look_known-requires-clause-other
 look_known-requires-clause-other g c = record { place = c.in-Some.other; early = omega arith; at = c.in-Some.ensures.known }
@@ -47,7 +47,7 @@ returns-clause-marks_each g c =
 
 pub returns-clause-spends_each : goal.returns-clause-spends_each
 returns-clause-spends_each g c =
-    λ f e marks. joins_few marks.are (look_within c.requires.known (c.the_numbering_is_sound.ensures.numbered c.args.facts.now.shape) c.requires.links c.requires.look) c.look_known.ensures.joins
+    λ f e marks. joins_few marks.are (look_within c.requires.known (c.the_numbering_is_sound.ensures.numbered c.args.facts.now.shape) c.requires.look) c.look_known.ensures.joins
 
 pub returns-then-has-clause-tried_each : goal.returns-then-has-clause-tried_each
 returns-then-has-clause-tried_each g c = λ f e marks. tried_none refl
@@ -69,5 +69,5 @@ returns-then-other-look-clause-spends g c = spends_none refl refl
 
 pub returns-clause-spends : goal.returns-clause-spends
 returns-clause-spends g c =
-    joins_spent c.args.near.now.items c.requires.marks (look_within c.requires.known (c.the_numbering_is_sound.ensures.numbered c.args.facts.now.shape) c.requires.links c.requires.look)
-    (c.args.look.link.wire.0, c.args.look.wire.0, c.requires.look.link) c.look_known.ensures.joins
+    joins_spent c.args.field.now c.requires.marks (look_within c.requires.known (c.the_numbering_is_sound.ensures.numbered c.args.facts.now.shape) c.requires.look)
+    c.requires.look.link.has c.look_known.ensures.joins

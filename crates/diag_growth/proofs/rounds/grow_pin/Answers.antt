@@ -1,5 +1,5 @@
 use Rattle.std.proofs.Common.{◌∙◌, ◌<◌, refl, sym, ap, subst, inl, inr, arith}
-use Rattle.diag_growth.proofs.Vocabulary.{has_number, Shape, pin_wire, wires_of, more_itself, AreLinked, HasWire, Marks, on_ok_so}
+use Rattle.diag_growth.proofs.Vocabulary.{has_number, Shape, pin_wire, wires_of, more_itself, IsFieldOf, HasWire, Marks, on_ok_so}
 use Rattle.diag_growth.proofs.{Circling.grown_at, Circling.pin_grows, Circling.pin_marks, Circling.pin_has, Explained.held}
 use Rattle.diag_known.proofs.Marking.{few_none, few_then, few_barred, spends_none, spends_then, spends_barred, takes_two}
 use Rattle.diag_growth.proofs.Stages.{grows_itself, grows_then, grown_on, longer, tried_none, tried_one, tried_then}
@@ -53,8 +53,8 @@ returns-in_err-try_pin-clause-grows g c = pin_grows c.requires.marks (subst (λ 
 pub returns-in_err-try_pin-clause-spends_each : goal.returns-in_err-try_pin-clause-spends_each
 returns-in_err-try_pin-clause-spends_each g c = λ f e marks. few_barred _ _ c.requires.marks (subst (λ w. w < wires_of c.args.facts.now.shape) (c.pin-wire.ensures.wire ∙ ap (λ m. pin_wire m c.args.pin) c.shape.ensures) (subst (λ (m : Shape). c.pin-wire.result.0 < wires_of m) c.shape.ensures c.pin-wire.ensures.within)) (ap (has_number c.args.marks.now.barred) (sym (c.pin-wire.ensures.wire ∙ ap (λ m. pin_wire m c.args.pin) c.shape.ensures)) ∙ sym c.has.ensures ∙ c.if-has.false) c.try_pin.ensures.barred (takes_two c.try_pin.ensures.loads)
 
-pub look_on-requires-clause-links : goal.look_on-requires-clause-links
-look_on-requires-clause-links g c = subst (λ (m : Shape). AreLinked m c.args.near.now.items) (sym c.try_pin.ensures.advances.more.shape) c.requires.links
+pub look_on-requires-clause-field : goal.look_on-requires-clause-field
+look_on-requires-clause-field g c = subst (λ (m : Shape). IsFieldOf m c.args.field.now) (sym c.try_pin.ensures.advances.more.shape) c.requires.field
 
 pub look_on-requires-clause-from : goal.look_on-requires-clause-from
 look_on-requires-clause-from g c =

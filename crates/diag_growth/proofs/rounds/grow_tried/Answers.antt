@@ -1,35 +1,20 @@
 use Rattle.std.proofs.Common.{◌≡◌, ◌∙◌, refl, sym, ap, subst, arith}
-use Rattle.diag_growth.proofs.Vocabulary.{Shape, pins_of, advances_then, IsFieldOf, AreLinked, AreLinks, linked_of}
+use Rattle.diag_growth.proofs.Vocabulary.{Shape, pins_of, advances_then, IsFieldOf}
 use Rattle.diag_growth.proofs.Circling.{first_marks, first_over, first_unspent, grows_nothing, growing_next, growing_closed, growing_few, growing_start, spread_first, spread_in, spread_most, spread_next}
 use Rattle.diag_growth.proofs.{Ending.grows_in, Taken.no_loads, Taken.takes_none, Taken.takes_most, Taken.takes_few, Explained.held}
 use Rattle.diag_growth.proofs.rounds.grow_tried.Goals as goal
 
-pub links_of-requires : goal.links_of-requires
-links_of-requires g c = record { field = subst (λ (m : Shape). IsFieldOf m c.args.field.now) (sym c.shape-shape.ensures) c.requires.field }
+pub returns-in_default-clause-loads : goal.returns-in_default-clause-loads
+returns-in_default-clause-loads g c = no_loads c.args.facts.now c.args.field.now _ c.requires.field
 
 pub returns-in_default-clause-grows : goal.returns-in_default-clause-grows
 returns-in_default-clause-grows g c = grows_nothing c.args.known.now.steps
 
-pub returns-in_default-clause-loads : goal.returns-in_default-clause-loads
-returns-in_default-clause-loads g c = no_loads c.args.facts.now c.args.field.now _ c.requires.field
-
-pub returns-in_default-new-clause-loads : goal.returns-in_default-new-clause-loads
-returns-in_default-new-clause-loads g c = no_loads c.args.facts.now c.args.field.now _ c.requires.field
-
 pub returns-in_default-clause-few_each : goal.returns-in_default-clause-few_each
 returns-in_default-clause-few_each g c = λ f e. takes_none c.requires.field refl
 
-pub returns-in_default-new-clause-grows : goal.returns-in_default-new-clause-grows
-returns-in_default-new-clause-grows g c = grows_nothing c.args.known.now.steps
-
-pub returns-in_default-new-clause-few_each : goal.returns-in_default-new-clause-few_each
-returns-in_default-new-clause-few_each g c = λ f e. takes_none c.requires.field refl
-
-pub look_on-requires-clause-links : goal.look_on-requires-clause-links
-look_on-requires-clause-links g c = linked_of (subst (λ (m : Shape). AreLinks m c.args.field.now c.in-Ok.near.items) c.shape-shape.ensures c.in-Ok.ensures)
-
 pub look_on-requires-clause-marks : goal.look_on-requires-clause-marks
-look_on-requires-clause-marks g c = first_over c.requires.field (record { len = c.in-Ok-new.ensures.len; offered = c.in-Ok-new.ensures.offered; second = c.in-Ok-new.ensures.second; between = c.in-Ok-new.ensures.between })
+look_on-requires-clause-marks g c = first_over c.requires.field (record { len = c.in-Ok.ensures.len; offered = c.in-Ok.ensures.offered; second = c.in-Ok.ensures.second; between = c.in-Ok.ensures.between })
 
 pub returns-in_err-look_on-clause-known : goal.returns-in_err-look_on-clause-known
 returns-in_err-look_on-clause-known g c = c.look_on.ensures.grows.known
@@ -38,20 +23,20 @@ pub returns-in_err-look_on-clause-all : goal.returns-in_err-look_on-clause-all
 returns-in_err-look_on-clause-all g c = c.look_on.ensures.grows.all
 
 pub returns-in_err-look_on-clause-grows : goal.returns-in_err-look_on-clause-grows
-returns-in_err-look_on-clause-grows g c = grows_in c.in-Ok-new.ensures.barred c.in-Ok-new.ensures.len c.look_on.ensures.grows
+returns-in_err-look_on-clause-grows g c = grows_in c.in-Ok.ensures.barred c.in-Ok.ensures.len c.look_on.ensures.grows
 
 pub returns-in_err-look_on-clause-loads : goal.returns-in_err-look_on-clause-loads
-returns-in_err-look_on-clause-loads g c = takes_most c.requires.field (subst (λ (m : Shape). AreLinks m c.args.field.now c.in-Ok.near.items) c.shape-shape.ensures c.in-Ok.ensures) c.in-Ok-new.ensures.barred (first_unspent (record { len = c.in-Ok-new.ensures.len; offered = c.in-Ok-new.ensures.offered; second = c.in-Ok-new.ensures.second; between = c.in-Ok-new.ensures.between })) c.look_on.ensures.spends
+returns-in_err-look_on-clause-loads g c = takes_most c.requires.field c.in-Ok.ensures.barred (first_unspent (record { len = c.in-Ok.ensures.len; offered = c.in-Ok.ensures.offered; second = c.in-Ok.ensures.second; between = c.in-Ok.ensures.between })) c.look_on.ensures.spends
 
 pub returns-in_err-look_on-clause-few_each : goal.returns-in_err-look_on-clause-few_each
-returns-in_err-look_on-clause-few_each g c = λ f e. takes_few c.requires.field (subst (λ (m : Shape). AreLinks m c.args.field.now c.in-Ok.near.items) c.shape-shape.ensures c.in-Ok.ensures) c.in-Ok-new.ensures.barred (first_unspent (record { len = c.in-Ok-new.ensures.len; offered = c.in-Ok-new.ensures.offered; second = c.in-Ok-new.ensures.second; between = c.in-Ok-new.ensures.between })) c.look_on.ensures.spends (c.look_on.ensures.spends_each f e (first_marks c.requires.field (record { len = c.in-Ok-new.ensures.len; offered = c.in-Ok-new.ensures.offered; second = c.in-Ok-new.ensures.second; between = c.in-Ok-new.ensures.between })))
+returns-in_err-look_on-clause-few_each g c = λ f e. takes_few c.requires.field c.in-Ok.ensures.barred (first_unspent (record { len = c.in-Ok.ensures.len; offered = c.in-Ok.ensures.offered; second = c.in-Ok.ensures.second; between = c.in-Ok.ensures.between })) c.look_on.ensures.spends (c.look_on.ensures.spends_each f e (first_marks c.requires.field (record { len = c.in-Ok.ensures.len; offered = c.in-Ok.ensures.offered; second = c.in-Ok.ensures.second; between = c.in-Ok.ensures.between })))
 
 pub pins-init : goal.pins-init
 pins-init g c = record {
   advances = c.look_on.ensures.advances;
-  start = c.in-Ok-new.marks;
-  spread = spread_first c.in-Ok-new.ensures.barred (record { len = c.in-Ok-new.ensures.len; offered = c.in-Ok-new.ensures.offered; second = c.in-Ok-new.ensures.second; between = c.in-Ok-new.ensures.between }) c.look_on.ensures.grows c.look_on.ensures.marks c.look_on.ensures.spends;
-  growing_each = λ f e. growing_start c.requires.field (record { len = c.in-Ok-new.ensures.len; offered = c.in-Ok-new.ensures.offered; second = c.in-Ok-new.ensures.second; between = c.in-Ok-new.ensures.between }) (c.in_ok-look_on.ensures.tried_each f e) (c.in_ok-look_on.ensures.grown_each f e)
+  start = c.in-Ok.marks;
+  spread = spread_first c.in-Ok.ensures.barred (record { len = c.in-Ok.ensures.len; offered = c.in-Ok.ensures.offered; second = c.in-Ok.ensures.second; between = c.in-Ok.ensures.between }) c.look_on.ensures.grows c.look_on.ensures.marks c.look_on.ensures.spends;
+  growing_each = λ f e. growing_start c.requires.field (record { len = c.in-Ok.ensures.len; offered = c.in-Ok.ensures.offered; second = c.in-Ok.ensures.second; between = c.in-Ok.ensures.between }) (c.in_ok-look_on.ensures.tried_each f e) (c.in_ok-look_on.ensures.grown_each f e)
       (c.in_ok-look_on.ensures.marks_each f e) (c.look_on.ensures.spends_each f e);
 }
 
@@ -64,8 +49,8 @@ grow_pin-requires-clause-all g c = c.pins.invariant.spread.grows.all
 pub grow_pin-requires-clause-marks : goal.grow_pin-requires-clause-marks
 grow_pin-requires-clause-marks g c = c.pins.invariant.spread.over
 
-pub grow_pin-requires-clause-links : goal.grow_pin-requires-clause-links
-grow_pin-requires-clause-links g c = subst (λ (m : Shape). AreLinked m c.in-Ok.near.items) (sym c.pins.invariant.advances.more.shape) (linked_of (subst (λ (m : Shape). AreLinks m c.args.field.now c.in-Ok.near.items) c.shape-shape.ensures c.in-Ok.ensures))
+pub grow_pin-requires-clause-field : goal.grow_pin-requires-clause-field
+grow_pin-requires-clause-field g c = subst (λ (m : Shape). IsFieldOf m c.args.field.now) (sym c.pins.invariant.advances.more.shape) c.requires.field
 
 pub grow_pin-requires-clause-pin : goal.grow_pin-requires-clause-pin
 grow_pin-requires-clause-pin g c =
@@ -82,11 +67,11 @@ pub returns-in_err-grow_pin-clause-grows : goal.returns-in_err-grow_pin-clause-g
 returns-in_err-grow_pin-clause-grows g c = spread_in c.pins.invariant.spread c.grow_pin.ensures.grows
 
 pub returns-in_err-grow_pin-clause-loads : goal.returns-in_err-grow_pin-clause-loads
-returns-in_err-grow_pin-clause-loads g c = spread_most c.pins.invariant.spread c.requires.field (subst (λ (m : Shape). AreLinks m c.args.field.now c.in-Ok.near.items) c.shape-shape.ensures c.in-Ok.ensures) c.pins.invariant.advances.more c.grow_pin.ensures.spends
+returns-in_err-grow_pin-clause-loads g c = spread_most c.pins.invariant.spread c.requires.field c.pins.invariant.advances.more c.grow_pin.ensures.spends
 
 pub returns-in_err-grow_pin-clause-few_each : goal.returns-in_err-grow_pin-clause-few_each
 returns-in_err-grow_pin-clause-few_each g c = λ f e. let before = c.grow_pin.ensures.advances.narrows f e in let old = c.pins.invariant.growing_each f before in
-    growing_few c.pins.invariant.spread c.requires.field (subst (λ (m : Shape). AreLinks m c.args.field.now c.in-Ok.near.items) c.shape-shape.ensures c.in-Ok.ensures) c.pins.invariant.advances.more c.grow_pin.ensures.spends
+    growing_few c.pins.invariant.spread c.requires.field c.pins.invariant.advances.more c.grow_pin.ensures.spends
     (held c.pins.invariant.advances before) old (c.grow_pin.ensures.spends_each f e old.marks)
 
 pub pins-preserved : goal.pins-preserved
@@ -115,10 +100,10 @@ returns-clause-closed_each g c =
     let shape = c.pins.invariant.advances.more.shape in
     let end : c.pins-pin-end.result ≡ pins_of c.pins.facts.shape = c.pins-pin-end.ensures.pins ∙ ap pins_of (c.shape-shape.ensures ∙ sym shape) in
     λ f e. growing_closed (subst (λ (m : Shape). IsFieldOf m c.args.field.now) (sym shape) c.requires.field) (c.the_numbering_is_sound.ensures.tree c.pins.facts.shape) (c.the_crosspoints_are_sound.ensures.meetings c.pins.facts.shape)
-    (subst (λ (m : Shape). AreLinks m c.args.field.now c.in-Ok.near.items) (sym shape) (subst (λ (m : Shape). AreLinks m c.args.field.now c.in-Ok.near.items) c.shape-shape.ensures c.in-Ok.ensures)) (omega (arith, end)) c.pins.invariant.spread (c.pins.invariant.growing_each f e)
+    (omega (arith, end)) c.pins.invariant.spread (c.pins.invariant.growing_each f e)
 
 pub returns-clause-loads : goal.returns-clause-loads
-returns-clause-loads g c = takes_most c.requires.field (subst (λ (m : Shape). AreLinks m c.args.field.now c.in-Ok.near.items) c.shape-shape.ensures c.in-Ok.ensures) c.pins.invariant.spread.outside c.pins.invariant.spread.unspent c.pins.invariant.spread.spends
+returns-clause-loads g c = takes_most c.requires.field c.pins.invariant.spread.outside c.pins.invariant.spread.unspent c.pins.invariant.spread.spends
 
 pub returns-clause-few_each : goal.returns-clause-few_each
-returns-clause-few_each g c = λ f e. takes_few c.requires.field (subst (λ (m : Shape). AreLinks m c.args.field.now c.in-Ok.near.items) c.shape-shape.ensures c.in-Ok.ensures) c.pins.invariant.spread.outside c.pins.invariant.spread.unspent c.pins.invariant.spread.spends (c.pins.invariant.growing_each f e).few
+returns-clause-few_each g c = λ f e. takes_few c.requires.field c.pins.invariant.spread.outside c.pins.invariant.spread.unspent c.pins.invariant.spread.spends (c.pins.invariant.growing_each f e).few

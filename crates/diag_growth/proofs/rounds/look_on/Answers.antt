@@ -1,5 +1,5 @@
 use Rattle.diag_growth.proofs.Vocabulary.{◌≡◌, length, refl, sym, ap, subst, arith, Shape, wires_of, advances_itself, advances_then}
-use Rattle.diag_growth.proofs.Vocabulary.{more_itself, AreLinked, few_none, few_then, spends_none, spends_then}
+use Rattle.diag_growth.proofs.Vocabulary.{more_itself, IsFieldOf, few_none, few_then, spends_none, spends_then}
 use Rattle.diag_growth.proofs.Circling.{grown_at}
 use Rattle.diag_growth.proofs.{Stages.grows_itself, Stages.grows_then, Stages.longer, Stages.tried_none, Stages.tried_then, Explained.held}
 use Rattle.diag_growth.proofs.rounds.look_on.Goals as goal
@@ -16,8 +16,8 @@ places-init g c = record {
   also = (c.requires.from, λ f e marks grown. grown);
 }
 
-pub look_at-requires-clause-links : goal.look_at-requires-clause-links
-look_at-requires-clause-links g c = subst (λ (m : Shape). AreLinked m c.args.near.now.items) (sym c.places.invariant.advances.more.shape) c.requires.links
+pub look_at-requires-clause-field : goal.look_at-requires-clause-field
+look_at-requires-clause-field g c = subst (λ (m : Shape). IsFieldOf m c.args.field.now) (sym c.places.invariant.advances.more.shape) c.requires.field
 
 pub returns-in_err-look_at-clause-grows : goal.returns-in_err-look_at-clause-grows
 returns-in_err-look_at-clause-grows g c = grows_then c.places.invariant.grows c.look_at.ensures.grows

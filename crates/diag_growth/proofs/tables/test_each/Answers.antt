@@ -1,4 +1,4 @@
-use Rattle.diag_growth.proofs.Vocabulary.{◌∙◌, ◌+◌, get_or, refl, sym, arith, advances_itself, advances_then, known_later, links_same}
+use Rattle.diag_growth.proofs.Vocabulary.{◌+◌, get_or, refl, sym, arith, advances_itself, advances_then, known_later}
 use Rattle.diag_growth.proofs.{Fresh.takes_all, Fresh.takes_more, Explained.held}
 use Rattle.diag_growth.proofs.Testing.{tested_first, tested_all, table_at, only_none, only_then, without_at, without_later, tested_on}
 use Rattle.diag_growth.proofs.tables.test_each.Goals as goal
@@ -6,26 +6,17 @@ use Rattle.diag_growth.proofs.tables.test_each.Goals as goal
 pub returns-in_default-clause-only : goal.returns-in_default-clause-only
 returns-in_default-clause-only g c = only_none
 
-pub without_of-requires-clause-links : goal.without_of-requires-clause-links
-without_of-requires-clause-links g c = links_same (sym c.requires.known.shape ∙ sym c.shape.ensures) c.in-Ok.ensures
-
-pub returns-in_default-without_of-clause-only : goal.returns-in_default-without_of-clause-only
-returns-in_default-without_of-clause-only g c = only_none
-
 pub tables-init : goal.tables-init
 tables-init g c = record {
   advances = advances_itself _ c.args.facts.now;
   only = only_none;
   tested_each = λ f e. tested_first;
-  without = without_at (sym c.in-Ok-without_of.ensures.hextant) c.in-Ok-without_of.ensures.stands;
+  without = without_at (sym c.in-Ok.ensures.hextant) c.in-Ok.ensures.stands;
   loads = omega arith;
 }
 
 pub test_seated-requires-clause-known : goal.test_seated-requires-clause-known
 test_seated-requires-clause-known g c = known_later c.tables.invariant.advances.more c.requires.known
-
-pub test_seated-requires-clause-links : goal.test_seated-requires-clause-links
-test_seated-requires-clause-links g c = links_same (c.tables.invariant.advances.more.shape ∙ sym c.requires.known.shape ∙ sym c.shape.ensures) c.in-Ok.ensures
 
 pub returns-in_err-test_seated-clause-loads : goal.returns-in_err-test_seated-clause-loads
 returns-in_err-test_seated-clause-loads g c = takes_all c.args.facts.now c.args.tables.now (c.tables.i + 1) _ (takes_more c.args.tables.now c.tables.i (record { 0 = 0 }) _ c.tables-test.true c.tables.invariant.advances.more c.tables.invariant.loads c.test_seated.ensures.loads)

@@ -2,8 +2,8 @@ use Rattle.diag_growth.proofs.Vocabulary.{◌∙◌, ap, wires_of, known_apart}
 use Rattle.diag_growth.proofs.Testing.{all_without}
 use Rattle.diag_growth.proofs.tables.without_of.Goals as goal
 
-pub stand_on-requires-clause-apart : goal.stand_on-requires-clause-apart
-stand_on-requires-clause-apart c = known_apart c.in_ok-outside.outside c.requires.known (c.in_ok-outside.ensures.len ∙ ap wires_of c.requires.known.shape) c.in_ok-outside.ensures.known
+pub standing-requires : goal.standing-requires
+standing-requires c = record { apart = known_apart c.in_ok-outside.outside c.requires.known (c.in_ok-outside.ensures.len ∙ ap wires_of c.requires.known.shape) c.in_ok-outside.ensures.known }
 
 pub returns-clause-stands : goal.returns-clause-stands
 returns-clause-stands c =

@@ -1,4 +1,3 @@
-use Rattle.std.proofs.Common.{◌≡◌}
 use Rattle.diag_known.proofs.Touring.{walks_pushed, stay_pushed, on_pushed}
 use Rattle.diag_known.proofs.tour.add_walk.Goals as goal
 

@@ -1,4 +1,4 @@
-use Rattle.std.proofs.Common.{◌≡◌, ◌<◌, ◌∙◌, Some, length, refl, sym, ap, subst, arith, slice_get}
+use Rattle.std.proofs.Common.{◌≡◌, ◌∙◌, Some, refl, sym, ap, subst, arith, slice_get}
 use Rattle.diag_known.proofs.Vocabulary.{slice_get-get_or, Walk, IsFrom}
 use Rattle.diag_known.proofs.{Places.some_same, Touring.walks_set, Touring.stay_set, Touring.on_set}
 use Rattle.diag_known.proofs.tour.visit_at.Goals as goal

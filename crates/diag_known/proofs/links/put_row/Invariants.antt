@@ -1,0 +1,9 @@
+use Rattle.diag_known.specs.Vocabulary.{AreInField, AreListed, HasMore}
+use Rattle.diag_known.proofs.links.put_row.Given as goal
+
+abbrev pub invariant-places : goal.invariant-places
+invariant-places l = record {
+  right : AreInField l.shape l.field l.look.from.0 l.links.items;
+  stays : HasMore l.fn.links.items l.links.items;
+  listed : AreListed l.shape l.field l.links.items l.look.across l.look.from.0 l.node.0 l.place;
+}
