@@ -74,12 +74,7 @@ struct DiagnosisState {
 }
 
 // What a diagnosis has at hand at first.
-fn first_state(
-    alloc: Global,
-    facts: &Facts,
-    known: &Known,
-    bad: &DefectMarks,
-) -> Result<DiagnosisState, AllocError>
+fn first_state(alloc: Global, facts: &Facts) -> Result<DiagnosisState, AllocError>
     ensures field { IfOk result (λ state. IsFieldOf facts.now.shape state.field) }
     ensures whole { IfOk result (λ state. IsWhole facts.now.shape state.field) }
     ensures left { IfOk result (λ state. state.choices.left ≡ 0) }
@@ -89,7 +84,7 @@ fn first_state(
     let field = Field::whole(alloc, &facts.shape())?;
     let tables = all_tables(alloc, &facts.shape())?;
     Ok(DiagnosisState {
-        choices: Choices::new(facts, known, bad, &field, &tables)?,
+        choices: Choices::new(alloc, facts, &tables)?,
         field,
         swept: 0,
     })
@@ -346,7 +341,7 @@ fn know_from_first(
         rig.old).loads + loads_for facts.old 2 3)) }
     ensures cause { IsErrOf result RigFail.Failed → Rose (rig_state rig.old).failures (rig_state rig.new).failures }
 {
-    let Ok(mut state) = first_state(alloc, facts, known, bad) else {
+    let Ok(mut state) = first_state(alloc, facts) else {
         return Err(RigFail::Memory);
     };
     let done = know_all(rig, facts, known, bad, &mut state);

@@ -18,7 +18,9 @@ pub enum Mark {
 /// What the search remembers of crosspoints and wires.
 #[derive(Drop)]
 pub(crate) struct Board {
-    marks: Vec<Mark>,
+    // The crosspoints that are kept, and those that aren't decided; all others are barred.
+    kept: NumberBits,
+    undecided: NumberBits,
     known: NumberBits,
     // The wires of the field.
     field: Vec<bool>,
@@ -32,57 +34,60 @@ pub(crate) struct Board {
 }
 
 impl Board {
+    /// With room for nothing.
+    pub(crate) fn bare(alloc: Global) -> Board {
+        Board {
+            kept: NumberBits::bare(alloc),
+            undecided: NumberBits::bare(alloc),
+            known: NumberBits::bare(alloc),
+            field: Vec::new(alloc),
+            pins: 0,
+            known_pins: 0,
+            turn: 0,
+            used: Vec::new(alloc),
+            busy: Vec::new(alloc),
+        }
+    }
+
     // Takes room for what is known of each crosspoint, wire and tree.
     fn widen(&mut self, shape: &Shape) -> Result<(), AllocError> {
         let wires = shape.wires() as usize;
-        self.marks.resize(shape.crosses() as usize, Mark::Barred)?;
+        self.kept.widen(shape.crosses())?;
+        self.undecided.widen(shape.crosses())?;
+        self.known.widen(shape.wires())?;
         self.field.resize(wires, false)?;
         self.used.resize(wires, 0)?;
         self.busy.resize(shape.pins() as usize, 0)?;
+        self.pins = shape.pins();
         Ok(())
     }
 
     /// The board before the first load. No wire is known or of the field, and no crosspoint may be tried.
     pub(crate) fn new(alloc: Global, shape: &Shape) -> Result<Board, AllocError> {
-        let known = NumberBits::new(alloc, shape.wires())?;
-        let mut board = Board {
-            marks: Vec::new(alloc),
-            known,
-            field: Vec::new(alloc),
-            pins: shape.pins(),
-            known_pins: 0,
-            turn: 0,
-            used: Vec::new(alloc),
-            busy: Vec::new(alloc),
-        };
+        let mut board = Board::bare(alloc);
         board.widen(shape)?;
         Ok(board)
     }
 
-    /// What is known of a crosspoint.
-    pub(crate) fn mark(&self, c: Cross) -> Mark {
-        self.marks
-            .get(c.0 as usize)
-            .copied()
-            .unwrap_or(Mark::Barred)
-    }
-
     /// Remembers what is known of a crosspoint.
     pub(crate) fn set_mark(&mut self, c: Cross, mark: Mark) {
-        let at = c.0 as usize;
-        if at < self.marks.len() {
-            self.marks[at] = mark;
-        }
+        self.kept.set(c.0, mark == Mark::Kept);
+        self.undecided.set(c.0, mark == Mark::Undecided);
     }
 
     /// Whether a crosspoint is kept.
     pub(crate) fn is_kept(&self, c: Cross) -> bool {
-        self.mark(c) == Mark::Kept
+        self.kept.has(c.0)
     }
 
     /// Whether a crosspoint isn't decided.
     pub(crate) fn is_undecided(&self, c: Cross) -> bool {
-        self.mark(c) == Mark::Undecided
+        self.undecided.has(c.0)
+    }
+
+    /// Whether a crosspoint may not be tried, and isn't kept.
+    pub(crate) fn is_barred(&self, c: Cross) -> bool {
+        !self.is_kept(c) && !self.is_undecided(c)
     }
 
     /// How many pins of the machine are known.

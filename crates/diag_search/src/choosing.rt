@@ -29,6 +29,11 @@ const PINS_A_LEFT_WIRE: u32 = 16;
 
 const PINS_A_LOST_WIRE: u32 = 7;
 
+/// The place of the suspects of a wire of which nothing was seen, and the forest of a list of its own.
+const NO_SUSPECTS: u32 = u32::MAX;
+
+const NO_FOREST: u32 = u32::MAX;
+
 /// What looks are for.
 #[derive(Clone, Copy, PartialEq, Eq)]
 pub enum Aim {
@@ -50,10 +55,20 @@ pub enum Still {
     High,
 }
 
-/// Known wires, to one of which a wire seems to be shorted. None where nothing was seen of it.
+/// Known wires, to one of which a wire seems to be shorted: those of a list of its own, or all on one tree of the forest of a look. None
+/// where nothing was seen of it.
 #[derive(Drop)]
-pub struct Suspects {
-    pub wires: Vec<Wire>,
+struct Suspects {
+    own: Vec<Wire>,
+    forest: u32,
+    pin: u32,
+}
+
+/// The wires on each tree of a forest, by its pin. First looks tell of most wires that they are shorted to one on some tree, so trees are
+/// listed once for all of a round. Empty where no wire has a tree of it for suspects any more.
+#[derive(Drop)]
+struct TreeLists {
+    trees: Vec<Vec<Wire>>,
 }
 
 /// A table, and those of its pins that aren't known.
@@ -84,7 +99,12 @@ pub struct Chooser {
     pub(crate) has_narrowed: bool,
     pub(crate) dry: u32,
     pub still: Vec<Still>,
-    pub suspects: Vec<Suspects>,
+    // The suspects of those wires that had some, and at which place of these those of a wire stand.
+    suspects: Vec<Suspects>,
+    suspects_at: Vec<u32>,
+    // The trees of forests that wires have for suspects, and whether those of this round are the last of them.
+    forests: Vec<TreeLists>,
+    pub(crate) has_trees: bool,
     // The known wire to which one was found to be shorted; and of a wire that gave way, for which one.
     pub(crate) partner: Vec<Option<Wire>>,
     pub(crate) heir: Vec<Option<Wire>>,
@@ -135,6 +155,9 @@ impl Chooser {
             dry: 0,
             still: Vec::new(alloc),
             suspects: Vec::new(alloc),
+            suspects_at: Vec::new(alloc),
+            forests: Vec::new(alloc),
+            has_trees: false,
             partner: Vec::new(alloc),
             heir: Vec::new(alloc),
             lost: Vec::new(alloc),
@@ -155,6 +178,7 @@ impl Chooser {
         self.known.resize(wires, false)?;
         self.kept.resize(wires, false)?;
         self.still.resize(wires, Still::No)?;
+        self.suspects_at.resize(wires, NO_SUSPECTS)?;
         self.partner.resize(wires, None)?;
         self.heir.resize(wires, None)?;
         self.lost.resize(wires, false)?;
@@ -170,21 +194,10 @@ impl Chooser {
         Ok(())
     }
 
-    // No wire has suspects.
-    fn clear_suspects(&mut self) -> Result<(), AllocError> {
-        'wires: for _w in 0..self.shape.wires() {
-            self.suspects.push(Suspects {
-                wires: Vec::new(self.alloc),
-            })?;
-        }
-        Ok(())
-    }
-
     // Takes room for each wire and each table.
     fn widen(&mut self) -> Result<(), AllocError> {
         self.widen_wires()?;
-        self.widen_tables()?;
-        self.clear_suspects()
+        self.widen_tables()
     }
 
     /// Before the first choice.
@@ -219,22 +232,136 @@ impl Chooser {
         (pins / share.max(1)).max(1) as usize
     }
 
+    // The place of a wire's suspects.
+    fn place_of_suspects(&self, w: Wire) -> usize {
+        self.suspects_at
+            .get(w.0 as usize)
+            .copied()
+            .unwrap_or(NO_SUSPECTS) as usize
+    }
+
+    // The wires on a tree.
+    fn tree_at(&self, forest: u32, pin: u32) -> Option<&Vec<Wire>> {
+        self.forests.get(forest as usize)?.trees.get(pin as usize)
+    }
+
+    /// The known wires to one of which one seems to be shorted, if something was seen of it.
+    pub fn suspects_of(&self, w: Wire) -> Option<&Vec<Wire>> {
+        let suspects = self.suspects.get(self.place_of_suspects(w))?;
+        match self.tree_at(suspects.forest, suspects.pin) {
+            Some(wires) => Some(wires),
+            None => Some(&suspects.own),
+        }
+    }
+
     /// How many known wires one seems to be shorted to.
     pub fn suspect_count(&self, w: Wire) -> usize {
-        match self.suspects.get(w.0 as usize) {
-            Some(suspects) => suspects.wires.len(),
+        match self.suspects_of(w) {
+            Some(wires) => wires.len(),
             None => 0,
         }
     }
 
-    /// One seems to be shorted to these.
-    pub fn set_suspects(&mut self, w: Wire, wires: Vec<Wire>) {
-        let at = w.0 as usize;
-        if at < self.suspects.len() {
-            let before = self.suspects[at].wires.len();
-            self.has_narrowed = self.has_narrowed || before == 0 || wires.len() < before;
-            self.suspects[at] = Suspects { wires };
+    // A wire has these suspects.
+    fn put_suspects(&mut self, w: Wire, suspects: Suspects) -> Result<(), AllocError> {
+        let place = self.place_of_suspects(w);
+        if place < self.suspects.len() {
+            self.suspects[place] = suspects;
+            return Ok(());
         }
+        let at = w.0 as usize;
+        if at < self.suspects_at.len() {
+            self.suspects_at[at] = u32::try_from(self.suspects.len()).unwrap_or(NO_SUSPECTS);
+            self.suspects.push(suspects)?;
+        }
+        Ok(())
+    }
+
+    /// One seems to be shorted to these.
+    pub fn set_suspects(&mut self, w: Wire, wires: Vec<Wire>) -> Result<(), AllocError> {
+        let before = self.suspect_count(w);
+        self.has_narrowed = self.has_narrowed || before == 0 || wires.len() < before;
+        let suspects = Suspects {
+            own: wires,
+            forest: NO_FOREST,
+            pin: 0,
+        };
+        self.put_suspects(w, suspects)
+    }
+
+    /// One of which nothing was seen seems to be shorted to one on this tree, of those that were listed last.
+    pub fn suspect_tree(&mut self, w: Wire, pin: u32) -> Result<(), AllocError> {
+        self.has_narrowed = true;
+        let last = self.forests.len().saturating_sub(1);
+        let suspects = Suspects {
+            own: Vec::new(self.alloc),
+            forest: u32::try_from(last).unwrap_or(NO_FOREST),
+            pin,
+        };
+        self.put_suspects(w, suspects)
+    }
+
+    /// Nothing was seen of a wire.
+    pub fn clear_suspects(&mut self, w: Wire) {
+        let place = self.place_of_suspects(w);
+        if place < self.suspects.len() {
+            self.suspects[place].own.clear();
+            self.suspects[place].forest = NO_FOREST;
+        }
+    }
+
+    /// Nothing was seen of any wire.
+    pub(crate) fn forget_suspects(&mut self) {
+        self.suspects.clear();
+        self.forests.clear();
+        self.has_trees = false;
+        'wires: for at in 0..self.suspects_at.len() {
+            if at < self.suspects_at.len() {
+                self.suspects_at[at] = NO_SUSPECTS;
+            }
+        }
+    }
+
+    /// Whether the trees of this round were listed.
+    pub fn has_trees(&self) -> bool {
+        self.has_trees
+    }
+
+    /// The wires on each tree, as they were listed last.
+    pub fn last_trees(&self) -> Option<&Vec<Vec<Wire>>> {
+        let last = self.forests.len().saturating_sub(1);
+        match self.forests.get(last) {
+            Some(lists) => Some(&lists.trees),
+            None => None,
+        }
+    }
+
+    // Which forests have a tree that a wire has for suspects.
+    fn used_forests(&self) -> Result<Vec<bool>, AllocError> {
+        let mut used = vec![in self.alloc; false; self.forests.len()]?;
+        'suspects: for suspects in &self.suspects {
+            set_flag(&mut used, suspects.forest, true);
+        }
+        Ok(used)
+    }
+
+    // Lets go of the trees of forests that no wire has for suspects any more.
+    fn drop_trees(&mut self) -> Result<(), AllocError> {
+        let used = self.used_forests()?;
+        'forests: for at in 0..self.forests.len() {
+            if at < self.forests.len() && !flag_at(&used, u32::try_from(at).unwrap_or(NO_FOREST)) {
+                self.forests[at].trees = Vec::new(self.alloc);
+            }
+        }
+        Ok(())
+    }
+
+    /// Takes the wires on each tree of this round, by its pin.
+    pub fn take_trees(&mut self, trees: Vec<Vec<Wire>>) -> Result<(), AllocError> {
+        self.drop_trees()?;
+        self.forests.push(TreeLists { trees })?;
+        self.has_trees = true;
+        Ok(())
     }
 
     // No round of looks was begun.
@@ -245,15 +372,6 @@ impl Chooser {
         self.rounds = 0;
         self.has_narrowed = true;
         self.dry = 0;
-    }
-
-    /// Nothing was seen of any wire.
-    pub(crate) fn forget_suspects(&mut self) {
-        'wires: for at in 0..self.suspects.len() {
-            if at < self.suspects.len() {
-                self.suspects[at].wires.clear();
-            }
-        }
     }
 
     // All wires that were unfit before a choice.

@@ -1,7 +1,6 @@
 //! What hangs in the next look: wires that aren't known, each over one crosspoint, on trees of the forest that stays.
 
-use crate::board::Mark;
-use crate::choosing::{Aim, Chooser, Still, Suspects};
+use crate::choosing::{Aim, Chooser, Still};
 use crate::feet::Support;
 use crate::flags::in_set;
 use crate::hangs::PINS_A_HANG;
@@ -86,7 +85,7 @@ impl Search {
     // Whether a wire that isn't known may hang over a link in a look.
     fn may_tie(&self, link: Support) -> bool {
         self.board.has(link.wire)
-            && self.board.mark(link.cross) != Mark::Barred
+            && !self.board.is_barred(link.cross)
             && !self.board.is_busy(self.forest.tree(link.wire))
     }
 
@@ -164,9 +163,9 @@ impl Chooser {
     }
 
     // The few suspects of a wire. None where they are many.
-    fn few_suspects(&self, w: Wire) -> Option<&Suspects> {
+    fn few_suspects(&self, w: Wire) -> Option<&Vec<Wire>> {
         if self.has_few(w) {
-            return self.suspects.get(w.0 as usize);
+            return self.suspects_of(w);
         }
         None
     }
@@ -176,7 +175,7 @@ impl Chooser {
         let Some(suspects) = self.few_suspects(w) else {
             return false;
         };
-        'suspects: for u in &suspects.wires {
+        'suspects: for u in suspects {
             if search.board.is_busy(search.forest.tree(*u)) {
                 return true;
             }
@@ -189,7 +188,7 @@ impl Chooser {
         let Some(suspects) = self.few_suspects(w) else {
             return;
         };
-        'suspects: for u in &suspects.wires {
+        'suspects: for u in suspects {
             let tree = search.forest.tree(*u);
             if hangs {
                 search.board.occupy(tree);
@@ -226,6 +225,7 @@ impl Chooser {
     fn count_round(&mut self) {
         self.rounds = self.rounds.saturating_add(1);
         self.has_narrowed = false;
+        self.has_trees = false;
     }
 
     // Begins a round, in which each wire is looked at once. For a choice the forest is another one then. False where no wire is to be

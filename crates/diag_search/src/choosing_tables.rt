@@ -79,7 +79,7 @@ impl Chooser {
         if self.knows(partner) {
             let mut wires = Vec::new(self.alloc);
             wires.push(partner)?;
-            self.set_suspects(w, wires);
+            self.set_suspects(w, wires)?;
         }
         Ok(())
     }
@@ -130,9 +130,9 @@ impl Chooser {
 
     // The known wire to which one is shorted, as it seems.
     fn found_partner(&self, w: Wire) -> Option<Wire> {
-        let suspects = self.suspects.get(w.0 as usize)?;
-        if suspects.wires.len() == 1 {
-            return suspects.wires.get(0).copied();
+        let suspects = self.suspects_of(w)?;
+        if suspects.len() == 1 {
+            return suspects.get(0).copied();
         }
         None
     }

@@ -67,23 +67,27 @@ impl PlannedForest {
         self.feet.resize(wires, None)?;
         self.trees.resize(wires, NO_TREE)?;
         self.sizes.resize(shape.pins() as usize, 0)?;
-        Ok(())
+        self.held.widen(shape.wires())
     }
 
-    /// Nothing hangs, as nothing is known.
-    pub(crate) fn new(alloc: Global, shape: &Shape) -> Result<PlannedForest, AllocError> {
-        let held = NumberBits::new(alloc, shape.wires())?;
-        let mut forest = PlannedForest {
+    /// With room for nothing.
+    pub(crate) fn bare(alloc: Global) -> PlannedForest {
+        PlannedForest {
             steps: Vec::new(alloc),
             ranks: Vec::new(alloc),
             feet: Vec::new(alloc),
             trees: Vec::new(alloc),
             sizes: Vec::new(alloc),
-            held,
+            held: NumberBits::bare(alloc),
             below: HEIGHTS,
             links: Vec::new(alloc),
             round: 0,
-        };
+        }
+    }
+
+    /// Nothing hangs, as nothing is known.
+    pub(crate) fn new(alloc: Global, shape: &Shape) -> Result<PlannedForest, AllocError> {
+        let mut forest = PlannedForest::bare(alloc);
         forest.widen(shape)?;
         Ok(forest)
     }

@@ -1,6 +1,5 @@
 //! Which wires hang in the next load: each over two crosspoints, to known wires on two trees that no other uses.
 
-use crate::board::Mark;
 use crate::feet::Support;
 use crate::flags::in_set;
 use crate::search::Search;
@@ -60,9 +59,9 @@ pub struct HangBook {
 }
 
 impl HangBook {
-    /// No wire is to be hung.
-    pub(crate) fn new(alloc: Global, shape: &Shape) -> Result<HangBook, AllocError> {
-        let mut book = HangBook {
+    /// With room for nothing.
+    pub(crate) fn bare(alloc: Global) -> HangBook {
+        HangBook {
             tries: Vec::new(alloc),
             hung: 0,
             learnt: 0,
@@ -71,7 +70,12 @@ impl HangBook {
             on_any: false,
             most: 0,
             chosen: Vec::new(alloc),
-        };
+        }
+    }
+
+    /// No wire is to be hung.
+    pub(crate) fn new(alloc: Global, shape: &Shape) -> Result<HangBook, AllocError> {
+        let mut book = HangBook::bare(alloc);
         book.tries.resize(shape.wires() as usize, 0)?;
         Ok(book)
     }
@@ -179,7 +183,7 @@ impl Search {
             };
             if self.board.has(link.wire)
                 && !self.board.is_busy(self.forest.tree(link.wire))
-                && self.board.mark(link.cross) != Mark::Barred
+                && !self.board.is_barred(link.cross)
             {
                 return Some((k.saturating_add(1), link));
             }
@@ -207,7 +211,7 @@ impl Search {
             let Some(link) = self.heights.link(w, j) else {
                 continue;
             };
-            if self.board.has(link.wire) && self.board.mark(link.cross) != Mark::Barred {
+            if self.board.has(link.wire) && !self.board.is_barred(link.cross) {
                 feet = feet.saturating_add(1);
             }
         }

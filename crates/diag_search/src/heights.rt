@@ -119,14 +119,19 @@ impl Crossbar {
 }
 
 impl Heights {
-    /// All links of a machine.
-    pub(crate) fn new(alloc: Global, shape: &Shape) -> Result<Heights, AllocError> {
-        let mut heights = Heights {
+    /// No links.
+    pub(crate) fn bare(alloc: Global) -> Heights {
+        Heights {
             bars: Vec::new(alloc),
             ends: Vec::new(alloc),
             links: Vec::new(alloc),
             levels: Vec::new(alloc),
-        };
+        }
+    }
+
+    /// All links of a machine.
+    pub(crate) fn new(alloc: Global, shape: &Shape) -> Result<Heights, AllocError> {
+        let mut heights = Heights::bare(alloc);
         heights.begin(shape)?;
         'nodes: for n in 0..shape.nodes() {
             heights.add_node(shape, Node(n))?;

@@ -10,12 +10,17 @@ pub(crate) struct Joins {
 }
 
 impl Joins {
-    /// So many trees, none joined.
-    pub(crate) fn new(alloc: Global, trees: u32) -> Result<Joins, AllocError> {
-        let mut joins = Joins {
+    /// No tree.
+    pub(crate) fn bare(alloc: Global) -> Joins {
+        Joins {
             above: Vec::new(alloc),
             sizes: Vec::new(alloc),
-        };
+        }
+    }
+
+    /// So many trees, none joined.
+    pub(crate) fn new(alloc: Global, trees: u32) -> Result<Joins, AllocError> {
+        let mut joins = Joins::bare(alloc);
         'trees: for tree in 0..trees {
             joins.above.push(tree)?;
             joins.sizes.push(1)?;

@@ -31,12 +31,18 @@ pub(crate) struct Ends {
 }
 
 impl Landings {
+    /// With room for nothing.
+    pub(crate) fn bare(alloc: Global) -> Landings {
+        Landings {
+            nodes: Vec::new(alloc),
+            joins: Joins::bare(alloc),
+        }
+    }
+
     /// No line hangs.
     pub(crate) fn new(alloc: Global, shape: &Shape) -> Result<Landings, AllocError> {
-        let mut landings = Landings {
-            nodes: Vec::new(alloc),
-            joins: Joins::new(alloc, shape.pins())?,
-        };
+        let mut landings = Landings::bare(alloc);
+        landings.joins = Joins::new(alloc, shape.pins())?;
         'nodes: for _node in 0..shape.nodes() {
             landings.nodes.push(Landing {
                 lines: Vec::new(alloc),

@@ -43,7 +43,7 @@ mod walk;
 mod walks;
 
 pub use board::Mark;
-pub use choosing::{Aim, Chooser, Still, Suspects};
+pub use choosing::{Aim, Chooser, Still};
 pub use choosing_looks::Told;
 pub use feet::{Link, Support, SupportedBy, VerifiedWire};
 pub use flags::{flag_at, in_set, set_flag};

@@ -26,11 +26,23 @@ fn lowest(word: u64, from: u32) -> Option<u32> {
 }
 
 impl NumberBits {
+    /// With room for none.
+    pub(crate) fn bare(alloc: Global) -> NumberBits {
+        NumberBits {
+            words: Vec::new(alloc),
+        }
+    }
+
+    /// Takes room for so many numbers.
+    pub(crate) fn widen(&mut self, count: u32) -> Result<(), AllocError> {
+        self.words.resize(count.div_ceil(WORD_BITS) as usize, 0)
+    }
+
     /// None of so many numbers.
     pub(crate) fn new(alloc: Global, count: u32) -> Result<NumberBits, AllocError> {
-        let mut words = Vec::new(alloc);
-        words.resize(count.div_ceil(WORD_BITS) as usize, 0)?;
-        Ok(NumberBits { words })
+        let mut bits = NumberBits::bare(alloc);
+        bits.widen(count)?;
+        Ok(bits)
     }
 
     /// Whether it is one of them.
@@ -55,6 +67,15 @@ impl NumberBits {
         let (at, bit) = place_of(n);
         if at < self.words.len() {
             self.words[at] &= !bit;
+        }
+    }
+
+    /// Puts one in, or takes it out.
+    pub(crate) fn set(&mut self, n: u32, on: bool) {
+        if on {
+            self.insert(n);
+        } else {
+            self.remove(n);
         }
     }
 

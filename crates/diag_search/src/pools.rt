@@ -72,16 +72,21 @@ pub(crate) fn first_of_line(heights: &Heights, node: u32, place: u32) -> u32 {
 }
 
 impl Pools {
+    /// With room for nothing.
+    pub(crate) fn bare(alloc: Global) -> Pools {
+        Pools {
+            pools: Vec::new(alloc),
+            rows: NumberBits::bare(alloc),
+            columns: NumberBits::bare(alloc),
+            left: Vec::new(alloc),
+        }
+    }
+
     /// Nothing is left of any crossbar.
     pub(crate) fn new(alloc: Global, shape: &Shape) -> Result<Pools, AllocError> {
-        let rows = NumberBits::new(alloc, shape.crosses())?;
-        let columns = NumberBits::new(alloc, shape.crosses())?;
-        let mut pools = Pools {
-            pools: Vec::new(alloc),
-            rows,
-            columns,
-            left: Vec::new(alloc),
-        };
+        let mut pools = Pools::bare(alloc);
+        pools.rows.widen(shape.crosses())?;
+        pools.columns.widen(shape.crosses())?;
         pools.left.resize(shape.wires() as usize, 0)?;
         pools.widen(alloc, shape.nodes())?;
         Ok(pools)

@@ -50,31 +50,38 @@ pub struct Search {
 }
 
 impl Search {
-    /// The search in a machine of which nothing is told yet: no wire is known or of the field, and no crosspoint may be tried.
-    pub fn new(alloc: Global, shape: &Shape) -> Result<Search, AllocError> {
-        let board = Board::new(alloc, shape)?;
-        let heights = Heights::new(alloc, shape)?;
-        let forest = PlannedForest::new(alloc, shape)?;
-        let hanging = HangBook::new(alloc, shape)?;
-        let walking = WalkBook::new(alloc, shape)?;
-        let testing = TableBook::new(alloc, shape)?;
-        let pools = Pools::new(alloc, shape)?;
-        let landings = Landings::new(alloc, shape)?;
-        Ok(Search {
+    /// No search as yet, with room for nothing: it finds nothing.
+    pub fn bare(alloc: Global, shape: &Shape) -> Search {
+        Search {
             alloc,
             shape: *shape,
-            board,
-            heights,
+            board: Board::bare(alloc),
+            heights: Heights::bare(alloc),
             draws: Draws::new(),
             decided: 0,
-            forest,
-            hanging,
-            walking,
-            testing,
-            pools,
-            landings,
+            forest: PlannedForest::bare(alloc),
+            hanging: HangBook::bare(alloc),
+            walking: WalkBook::bare(alloc),
+            testing: TableBook::bare(alloc),
+            pools: Pools::bare(alloc),
+            landings: Landings::bare(alloc),
             steps_left: 0,
-        })
+        }
+    }
+
+    /// The search in a machine of which nothing is told yet: no wire is known or of the field, and no crosspoint may be tried. Wants
+    /// memory: some 5 bits for each crosspoint, and some 150 bytes for each wire.
+    pub fn new(alloc: Global, shape: &Shape) -> Result<Search, AllocError> {
+        let mut search = Search::bare(alloc, shape);
+        search.board = Board::new(alloc, shape)?;
+        search.heights = Heights::new(alloc, shape)?;
+        search.forest = PlannedForest::new(alloc, shape)?;
+        search.hanging = HangBook::new(alloc, shape)?;
+        search.walking = WalkBook::new(alloc, shape)?;
+        search.testing = TableBook::new(alloc, shape)?;
+        search.pools = Pools::new(alloc, shape)?;
+        search.landings = Landings::new(alloc, shape)?;
+        Ok(search)
     }
 
     /// What is known of a crosspoint before the first load.

@@ -81,9 +81,9 @@ fn last_of(wires: &Vec<Wire>) -> [Option<Wire>; MOST_ENDS] {
 }
 
 impl TableBook {
-    /// No table is to be tested.
-    pub(crate) fn new(alloc: Global, shape: &Shape) -> Result<TableBook, AllocError> {
-        let mut book = TableBook {
+    /// With room for nothing.
+    pub(crate) fn bare(alloc: Global) -> TableBook {
+        TableBook {
             chip: 0,
             fails: Vec::new(alloc),
             chosen: Vec::new(alloc),
@@ -92,7 +92,12 @@ impl TableBook {
             inputs: Vec::new(alloc),
             outputs: Vec::new(alloc),
             hextants: Vec::new(alloc),
-        };
+        }
+    }
+
+    /// No table is to be tested.
+    pub(crate) fn new(alloc: Global, shape: &Shape) -> Result<TableBook, AllocError> {
+        let mut book = TableBook::bare(alloc);
         book.fails.resize(shape.tables() as usize, 0)?;
         Ok(book)
     }

@@ -106,9 +106,9 @@ pub struct WalkBook {
 }
 
 impl WalkBook {
-    /// No walk.
-    pub(crate) fn new(alloc: Global, shape: &Shape) -> Result<WalkBook, AllocError> {
-        let mut book = WalkBook {
+    /// With room for nothing.
+    pub(crate) fn bare(alloc: Global) -> WalkBook {
+        WalkBook {
             trials: Vec::new(alloc),
             groups: Vec::new(alloc),
             at_group: 0,
@@ -124,7 +124,12 @@ impl WalkBook {
             given_up: 0,
             decided: 0,
             found: 0,
-        };
+        }
+    }
+
+    /// No walk.
+    pub(crate) fn new(alloc: Global, shape: &Shape) -> Result<WalkBook, AllocError> {
+        let mut book = WalkBook::bare(alloc);
         book.listed.resize(shape.nodes() as usize, false)?;
         book.full.resize(shape.nodes() as usize, 0)?;
         Ok(book)

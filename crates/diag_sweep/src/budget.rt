@@ -112,10 +112,10 @@ fn sum_of_both(loads: u64, more: u64) -> u64
 
 impl LoadBudget {
     /// Holds nothing.
-    pub(crate) fn empty(alloc: Global, shape: &Shape) -> Result<LoadBudget, AllocError> {
+    pub(crate) fn empty(alloc: Global) -> Result<LoadBudget, AllocError> {
         Ok(LoadBudget {
             most: 0,
-            unsettled: BitSet::new(alloc, shape.crosses())?,
+            unsettled: BitSet::new(alloc, 0)?,
         })
     }
 

@@ -15,16 +15,16 @@ use crate::defect_marks::DefectMarks;
 use crate::held::forget;
 use crate::informing::new_search;
 use crate::losing::give_up;
-use crate::sweep_state::{TableSweep, first_state};
+use crate::sweep_state::{TableSweep, bare_state};
 use crate::tabling::sweep_again;
 use crate::telling::tell_all;
 use base_bits::BitSet;
 use diag_evidence::Facts;
 use diag_known::{Field, Known, standing};
-use diag_search::{Aim, Chooser};
+use diag_search::{Aim, Chooser, Search};
 use machine_shape::Table;
 use rig::{Rig, RigFail};
-use std::alloc::AllocError;
+use std::alloc::{AllocError, Global};
 
 /// How many loads are put in for a wire.
 const LOADS_FOR_WIRE: u64 = 14;
@@ -40,24 +40,19 @@ pub struct Choices {
 }
 
 impl Choices {
-    /// Before the first choice, with no loads. The tables are those that may be tested. Wants memory.
-    pub fn new(
-        facts: &Facts,
-        known: &Known,
-        bad: &DefectMarks,
-        field: &Field,
-        tables: &[Table],
-    ) -> Result<Choices, AllocError>
+    /// Before the first choice, with no loads. The tables are those that may be tested. Wants memory, some 60 bytes for each wire: what
+    /// else a choice needs it takes as it begins.
+    pub fn new(alloc: Global, facts: &Facts, tables: &[Table]) -> Result<Choices, AllocError>
         ensures left { IfOk result (λ choices. choices.left ≡ 0) }
         ensures len { IfOk result (λ choices. length choices.paid ≡ wires_of facts.now.shape) }
         ensures none { IfOk result (λ choices. size_of choices.paid ≡ 0) }
         ensures tables { IfOk result (λ choices. choices.table_sweep.tables.items ≡ tables.now) }
     {
-        let alloc = known.alloc();
-        let paid = BitSet::new(alloc, facts.shape().wires())?;
+        let shape = facts.shape();
+        let paid = BitSet::new(alloc, shape.wires())?;
         let tables = Vec::from_slice(alloc, tables)?;
-        let budget = LoadBudget::empty(alloc, &facts.shape())?;
-        let state = first_state(facts, known, bad, field, budget, Aim::Partners)?;
+        let budget = LoadBudget::empty(alloc)?;
+        let state = bare_state(alloc, &shape, budget, Aim::Partners)?;
         Ok(Choices {
             left: 0,
             paid,
@@ -128,12 +123,12 @@ impl Choices {
         Ok(())
     }
 
-    // Keeps what is left in the purse.
-    fn close_purse(&mut self, rig: &Box<dyn Rig>)
+    // Keeps what is left in the purse, and lets go of the search, which takes more memory than all that is known.
+    fn close_purse(&mut self, rig: &Box<dyn Rig>, known: &Known)
         ensures left { (rig_state rig.now).loads ≤ self.old.table_sweep.state.budget.most →
             (rig_state rig.now).loads + self.new.left ≤ self.old.table_sweep.state.budget.most }
         ensures paid { self.new.paid ≡ self.old.paid }
-        ensures table_sweep { self.new.table_sweep ≡ self.old.table_sweep }
+        ensures tables { self.new.table_sweep.tables ≡ self.old.table_sweep.tables }
     {
         self.left = self
             .table_sweep
@@ -141,6 +136,7 @@ impl Choices {
             .budget
             .most
             .saturating_sub(loads_of(rig));
+        self.table_sweep.state.search = Search::bare(known.alloc(), &known.shape());
     }
 }
 
@@ -251,7 +247,7 @@ pub fn choose(
         field,
         &mut choices.table_sweep.state,
     )?;
-    choices.close_purse(rig);
+    choices.close_purse(rig, known);
     match give_way(facts, known, bad, &mut choices.table_sweep.state.chooser) {
         Ok(chosen) => Ok(chosen),
         Err(_) => Err(RigFail::Memory),
@@ -295,6 +291,6 @@ pub fn sweep_with(
         return Err(RigFail::Memory);
     };
     sweep_again(rig, facts, known, bad, field, &mut choices.table_sweep)?;
-    choices.close_purse(rig);
+    choices.close_purse(rig, known);
     Ok(())
 }

@@ -19,13 +19,6 @@ fn far_end(shape: &Shape, w: Wire, cross: Cross) -> Option<Wire> {
     Some(tap)
 }
 
-/// Of the trees of a look: on which pins its wires hung, and the wires on each pin, which are listed once they are asked for.
-#[derive(Drop)]
-struct Trees {
-    own: Vec<bool>,
-    on_pins: Vec<Vec<Wire>>,
-}
-
 // The pin on which a wire hangs.
 fn pin_of(forest: &Forest, w: Wire) -> Option<u32> {
     if w.0 < forest.shape().wires() {
@@ -82,10 +75,10 @@ fn wires_on(
     w: Wire,
 ) -> Result<Vec<Wire>, AllocError> {
     let mut rest = Vec::new(chooser.alloc);
-    let Some(suspects) = chooser.suspects.get(w.0 as usize) else {
+    let Some(suspects) = chooser.suspects_of(w) else {
         return Ok(rest);
     };
-    'suspects: for u in &suspects.wires {
+    'suspects: for u in suspects {
         if let Some(pin) = pin_of(forest, *u) {
             if flag_at(alike, pin) {
                 rest.push(*u)?;
@@ -136,25 +129,55 @@ fn all_on(
     Ok(wires)
 }
 
+// The one pin of these, if it is one.
+fn only_pin(alike: &Vec<bool>) -> Option<u32> {
+    let mut found = None;
+    'pins: for pin in 0..alike.len() {
+        if alike.get(pin).copied() != Some(true) {
+            continue;
+        }
+        if found.is_some() {
+            return None;
+        }
+        found = u32::try_from(pin).ok();
+    }
+    found
+}
+
+// Lists the wires on each pin, once a round: the forest stays for all of its looks.
+fn list_trees(chooser: &mut Chooser, forest: &Forest) -> Result<(), AllocError> {
+    if chooser.has_trees() {
+        return Ok(());
+    }
+    let lists = wires_by_pin(chooser.alloc, forest)?;
+    chooser.take_trees(lists)
+}
+
+// The wires that hang on one of these pins, of those that were listed.
+fn listed_on(chooser: &Chooser, alike: &Vec<bool>) -> Result<Vec<Wire>, AllocError> {
+    match chooser.last_trees() {
+        Some(lists) => all_on(lists, chooser.alloc, alike),
+        None => Ok(Vec::new(chooser.alloc)),
+    }
+}
+
 // A wire is shorted to one that hangs on one of these pins, as it seems.
 fn suspect(
     chooser: &mut Chooser,
     forest: &Forest,
-    trees: &mut Trees,
     alike: &Vec<bool>,
     w: Wire,
 ) -> Result<(), AllocError> {
     if chooser.suspect_count(w) > 0 {
         let wires = wires_on(chooser, forest, alike, w)?;
-        chooser.set_suspects(w, wires);
-        return Ok(());
+        return chooser.set_suspects(w, wires);
     }
-    if trees.on_pins.is_empty() {
-        trees.on_pins = wires_by_pin(chooser.alloc, forest)?;
+    list_trees(chooser, forest)?;
+    if let Some(pin) = only_pin(alike) {
+        return chooser.suspect_tree(w, pin);
     }
-    let wires = all_on(&trees.on_pins, chooser.alloc, alike)?;
-    chooser.set_suspects(w, wires);
-    Ok(())
+    let wires = listed_on(chooser, alike)?;
+    chooser.set_suspects(w, wires)
 }
 
 // A pin stayed at one value with a wire. No known wire is to blame.
@@ -163,9 +186,7 @@ fn note_still(chooser: &mut Chooser, w: Wire, high: bool) {
     if at < chooser.still.len() {
         chooser.still[at] = if high { Still::High } else { Still::Low };
     }
-    if at < chooser.suspects.len() {
-        chooser.suspects[at].wires.clear();
-    }
+    chooser.clear_suspects(w);
 }
 
 // Takes in what was read at the pin of a wire.
@@ -174,7 +195,7 @@ fn hear_one(
     forest: &Forest,
     reads: &Looks,
     bad: &DefectMarks,
-    trees: &mut Trees,
+    own: &Vec<bool>,
     hang: (Wire, bool, u32),
 ) -> Result<(), AllocError> {
     let (w, kept, pin) = hang;
@@ -188,8 +209,8 @@ fn hear_one(
     if chooser.aim != Aim::Partners && !in_set(&bad.unfit, w.0) {
         return Ok(());
     }
-    match pins_alike(chooser.alloc, forest, reads, &trees.own, pin, kept)? {
-        Some(alike) => suspect(chooser, forest, trees, &alike, w),
+    match pins_alike(chooser.alloc, forest, reads, own, pin, kept)? {
+        Some(alike) => suspect(chooser, forest, &alike, w),
         None => Ok(()),
     }
 }
@@ -222,10 +243,7 @@ pub(crate) fn hear(
     bad: &DefectMarks,
 ) -> Result<(), AllocError> {
     let shape = facts.shape();
-    let mut trees = Trees {
-        own: own_pins(chooser.alloc, told, forest, &shape)?,
-        on_pins: Vec::new(chooser.alloc),
-    };
+    let own = own_pins(chooser.alloc, told, forest, &shape)?;
     'feet: for at in 0..told.feet.len() {
         let Some((w, cross)) = told.feet.get(at).copied() else {
             continue;
@@ -235,7 +253,7 @@ pub(crate) fn hear(
         };
         if let Some(pin) = pin_of(forest, end) {
             let hang = (w, keeps(facts, cross), pin);
-            hear_one(chooser, forest, reads, bad, &mut trees, hang)?;
+            hear_one(chooser, forest, reads, bad, &own, hang)?;
         }
     }
     Ok(())

@@ -8,8 +8,8 @@ use crate::informing::new_search;
 use diag_evidence::Facts;
 use diag_known::{Field, Known};
 use diag_search::{Aim, Chooser, Search};
-use machine_shape::Table;
-use std::alloc::AllocError;
+use machine_shape::{Shape, Table};
+use std::alloc::{AllocError, Global};
 
 /// What a sweep has at hand.
 #[derive(Drop)]
@@ -27,6 +27,29 @@ pub(crate) struct SweepState {
     pub spends: bool,
 }
 
+/// The same before a search has begun.
+pub(crate) fn bare_state(
+    alloc: Global,
+    shape: &Shape,
+    budget: LoadBudget,
+    aim: Aim,
+) -> Result<SweepState, AllocError>
+    ensures { IfOk result (λ state. state.budget ≡ budget) }
+{
+    let chooser = Chooser::new(alloc, shape)?;
+    let held = bare_forest(alloc, shape)?;
+    Ok(SweepState {
+        budget,
+        search: Search::bare(alloc, shape),
+        held,
+        chooser,
+        aim,
+        on_any: false,
+        depth: 0,
+        spends: false,
+    })
+}
+
 /// What a sweep has at hand before its first load.
 pub(crate) fn first_state(
     facts: &Facts,
@@ -39,20 +62,9 @@ pub(crate) fn first_state(
     ensures { IfOk result (λ state. state.budget ≡ budget) }
 {
     let alloc = known.alloc();
-    let shape = facts.shape();
-    let chooser = Chooser::new(alloc, &shape)?;
-    let search = new_search(alloc, facts, known, bad, field)?;
-    let held = bare_forest(alloc, &shape)?;
-    Ok(SweepState {
-        budget,
-        search,
-        held,
-        chooser,
-        aim,
-        on_any: false,
-        depth: 0,
-        spends: false,
-    })
+    let mut state = bare_state(alloc, &facts.shape(), budget, aim)?;
+    state.search = new_search(alloc, facts, known, bad, field)?;
+    Ok(state)
 }
 
 /// The same, and the tables that may be tested.

@@ -94,13 +94,7 @@ pub fn sweep_stage(
 
 /// Choices of which none was made, with the loads that unfit wires are worth.
 pub fn choices_of(stage: &Stage, task: &Task) -> Result<Choices, &'static str> {
-    let choices = Choices::new(
-        &stage.facts,
-        &stage.known,
-        &stage.bad,
-        &task.field,
-        &task.tables,
-    );
+    let choices = Choices::new(stage.known.alloc(), &stage.facts, &task.tables);
     match choices {
         Ok(mut choices) => {
             choices.pay_for(&stage.bad.unfit);
