@@ -2,15 +2,28 @@
 use Rattle.std.proofs.Common.{◌≡◌, ◌≢◌, ◌⊎◌, ℕ, zero, suc, ◌+◌, ◌*◌, ◌<◌, true, false, Option, Some, None, List, [], ◌∷◌, ◌++◌, length, refl, sym, ap, ◌∙◌, subst, inl, inr, arith, slice_get}
 use Rattle.diag_known.proofs.Vocabulary.{false≢true, has_number, Shape, Ends-swap, Support, ends_of, crosses_of}
 use Rattle.machine_shape.specs.Vocabulary.{HasCrosses, HasMeetings, HasParents, HasRows, HasSites, HasTaps, IsLine, IsTap, IsTree, cross_at, first_cross_of, line_at, line_position, lines_of, node_of, node_of_cross, nodes_of, parent_of, tap_at, tap_position, taps_of}
-use Rattle.diag_known.specs.Vocabulary.{IsInField, HasLink, AreInField, AreLinksOf, AreListed, HasMore, IsRow, MissesRow, across_at, across_of, ends_by}
+use Rattle.diag_known.specs.Vocabulary.{AreBelow, AreInField, AreInOrder, AreLinksOf, AreListed, AreOfEarlier, HasLink, HasMore, IsInField, IsRow, MissesRow, Precedes, across_at, across_of, by_node, by_number, ends_by}
 use Rattle.diag_known.specs.declared.{field.Field.Field, links.Row.Row, looks.Across.Across}
 use Rattle.diag_known.specs.declared.looks.Across.TheVariants as across
 use Rattle.diag_known.proofs.Crosswise.{between_across, ends_here, line_around, line_here, line_not, tap_around}
+use Rattle.std.proofs.lemmas.Option.{slice_get_within}
 use Rattle.diag_known.proofs.Places.{get_before, get_last, get_pushed, one_more, some_same}
 
 -- none is listed yet
 pub none_listed : (m : Shape) (a : Field) (w : ℕ) (links : List Support) → links ≡ [] → AreInField m a w links
 none_listed m a w links none j link here = absurd (let no_link = subst (λ ls. slice_get ls j ≡ Some link) none here in by no_link)
+  where
+    by : slice_get [] j ≡ Some link → ⊥
+    by e = cc
+
+pub none_in_order : (m : Shape) (links : List Support) → links ≡ [] → AreInOrder m links
+none_in_order m links none i j a b less at = absurd (let no_link = subst (λ ls. slice_get ls i ≡ Some a) none at in by no_link)
+  where
+    by : slice_get [] i ≡ Some a → ⊥
+    by e = cc
+
+pub none_earlier : (m : Shape) (links : List Support) (n : ℕ) → links ≡ [] → AreOfEarlier m links n
+none_earlier m links n none j link here = absurd (let no_link = subst (λ ls. slice_get ls j ≡ Some link) none here in by no_link)
   where
     by : slice_get [] j ≡ Some link → ⊥
     by e = cc
@@ -31,6 +44,58 @@ right_pushed m a w old link pushed right this j l here = by (get_pushed old link
     by : (slice_get old j ≡ Some l) ⊎ ((j ≡ length old) × (link ≡ l)) → IsInField m a l.cross.0 l.wire.0 w
     by (inl h) = right j l h
     by (inr h) = subst (λ (z : Support). IsInField m a z.cross.0 z.wire.0 w) h.1 this
+
+-- one more that each listed one precedes
+pub ordered_pushed : {new : List Support} (m : Shape) (old : List Support) (link : Support) → new ≡ old ++ link ∷ [] → AreInOrder m old → ((j : ℕ) (l : Support) → slice_get old j ≡ Some l → Precedes m l.cross.0 link.cross.0) → AreInOrder m new
+ordered_pushed m old link pushed order first i j a b less at on = by (get_pushed old link i a (subst (λ ls. slice_get ls i ≡ Some a) pushed at)) (get_pushed old link j b (subst (λ ls. slice_get ls j ≡ Some b) pushed on))
+  where
+    by : (slice_get old i ≡ Some a) ⊎ ((i ≡ length old) × (link ≡ a)) → (slice_get old j ≡ Some b) ⊎ ((j ≡ length old) × (link ≡ b)) → Precedes m a.cross.0 b.cross.0
+    by (inl p) (inl q) = order i j a b less p q
+    by (inl p) (inr q) = subst (λ (z : Support). Precedes m a.cross.0 z.cross.0) q.1 (first i a p)
+    by (inr p) (inl q) = absurd (let last = p.0 in let within = slice_get_within old j b q in let no : ⊥ = omega (arith, less, last, within) in no)
+    by (inr p) (inr q) = absurd (let last = p.0 in let too = q.0 in let no : ⊥ = omega (arith, less, last, too) in no)
+
+-- what is of earlier nodes, or below a crosspoint of this one
+pub precedes_row : {m : Shape} (links : List Support) {n x : ℕ} → AreBelow m links n x → node_of_cross m x ≡ n → (j : ℕ) (l : Support) → slice_get links j ≡ Some l → Precedes m l.cross.0 x
+precedes_row {m} links {n} {x} below node j l here = by (below j l here)
+  where
+    by : (node_of_cross m l.cross.0 < n) ⊎ ((node_of_cross m l.cross.0 ≡ n) × (l.cross.0 < x)) → Precedes m l.cross.0 x
+    by (inl less) = by_node (subst (λ k. node_of_cross m l.cross.0 < k) (sym node) less)
+    by (inr h) = by_number (h.0 ∙ sym node) h.1
+
+pub below_first : (m : Shape) (links : List Support) (n x : ℕ) → AreOfEarlier m links n → AreBelow m links n x
+below_first m links n x earlier j l here = inl (earlier j l here)
+
+pub below_past : (m : Shape) (links : List Support) (n : ℕ) {x y : ℕ} → x < y → AreBelow m links n x → AreBelow m links n y
+below_past m links n {x} {y} more below j l here = by (below j l here)
+  where
+    by : (node_of_cross m l.cross.0 < n) ⊎ ((node_of_cross m l.cross.0 ≡ n) × (l.cross.0 < x)) → (node_of_cross m l.cross.0 < n) ⊎ ((node_of_cross m l.cross.0 ≡ n) × (l.cross.0 < y))
+    by (inl less) = inl less
+    by (inr h) = inr (h.0, (let less = h.1 in omega (arith, less, more)))
+
+pub below_pushed : {new : List Support} (m : Shape) (old : List Support) (link : Support) (n : ℕ) {y : ℕ} → new ≡ old ++ link ∷ [] → node_of_cross m link.cross.0 ≡ n → link.cross.0 < y → AreBelow m old n link.cross.0 → AreBelow m new n y
+below_pushed m old link n {y} pushed node more below j l here = by (get_pushed old link j l (subst (λ ls. slice_get ls j ≡ Some l) pushed here))
+  where
+    by : (slice_get old j ≡ Some l) ⊎ ((j ≡ length old) × (link ≡ l)) → (node_of_cross m l.cross.0 < n) ⊎ ((node_of_cross m l.cross.0 ≡ n) × (l.cross.0 < y))
+    by (inl h) = below_past m old n more below j l h
+    by (inr h) = inr (subst (λ (z : Support). (node_of_cross m z.cross.0 ≡ n) × (z.cross.0 < y)) h.1 (node, more))
+
+pub below_earlier : (m : Shape) (links : List Support) {n x : ℕ} → AreBelow m links n x → AreOfEarlier m links (n + 1)
+below_earlier m links {n} {x} below j l here = by (below j l here)
+  where
+    by : (node_of_cross m l.cross.0 < n) ⊎ ((node_of_cross m l.cross.0 ≡ n) × (l.cross.0 < x)) → node_of_cross m l.cross.0 < n + 1
+    by (inl less) = omega (arith, less)
+    by (inr h) = let same = h.0 in omega (arith, same)
+
+pub earlier_more : (m : Shape) (links : List Support) {n k : ℕ} → n < k + 1 → AreOfEarlier m links n → AreOfEarlier m links k
+earlier_more m links more earlier j l here = let less = earlier j l here in omega (arith, less, more)
+
+-- a row ascends
+step_more : (f i s : ℕ) → 0 < s → f + i * s < f + (i + 1) * s
+step_more f i s some = omega (arith, some)
+
+pub row_ascends : {m : Shape} {c : Across} {u n : ℕ} {r : Row} → IsRow m c u n r → (i : ℕ) → r.first + i * r.step < r.first + (i + 1) * r.step
+row_ascends {r = r} row i = step_more r.first i r.step row.ascends
 
 -- the crosspoint with the ends of one of a row is that one
 here_is : {m : Shape} {c : Across} {u n i x : ℕ} {r : Row} → HasCrosses m → IsRow m c u n r → i < across_of m c n → x < crosses_of m → ends_of m x ≡ ends_by c u (across_at m c n i) → x ≡ r.first + i * r.step
@@ -92,7 +157,7 @@ module _ {m : Shape} (tree : IsTree m) (crosses : HasCrosses m) (meetings : HasM
   line_node_is x i low less e = sym (tree.line_node (node_of_cross m x) (line_at m n i) (subst (IsLine m (node_of_cross m x)) e (meetings.line x less))) ∙ tree.line_node n (line_at m n i) (sites.line n i node low)
 
   pub tap_row_is : (first : ℕ) → 0 < lines_of m n → (first < crosses_of m) × (ends_of m first ≡ (u, line)) → (r : Row) → r.first ≡ first → r.step ≡ 1 → IsRow m across.Lines u n r
-  tap_row_is first some found r begins step = record { within = λ i low. subst (λ x. x < crosses_of m) (sym (number i)) (rows.within n a i node a_low low); ends = λ i low. ap (ends_of m) (number i) ∙ rows.ends n a i node a_low low ∙ ap (λ w. (w, line_at m n i)) is_tap }
+  tap_row_is first some found r begins step = record { ascends = (let one = step in omega (arith, one)); node = λ i low. subst (λ x. node_of_cross m x ≡ n) (sym (number i)) (rows.node n a i node a_low low); within = λ i low. subst (λ x. x < crosses_of m) (sym (number i)) (rows.within n a i node a_low low); ends = λ i low. ap (ends_of m) (number i) ∙ rows.ends n a i node a_low low ∙ ap (λ w. (w, line_at m n i)) is_tap }
     where
       ends_first : ends_of m first ≡ (u, line_at m n 0)
       ends_first = found.1 ∙ ap (λ w. (u, w)) is_first
@@ -133,7 +198,7 @@ module _ {m : Shape} (tree : IsTree m) (crosses : HasCrosses m) (meetings : HasM
 -- The crosspoints of a line of its node with the taps, from the first one on.
 module _ {m : Shape} (tree : IsTree m) (crosses : HasCrosses m) (meetings : HasMeetings m) (rows : HasRows m) (taps : HasTaps m) (n u tap : ℕ) (node : n < nodes_of m) (home : n ≡ node_of m u) (is_first : tap ≡ tap_at m n 0) where
   pub line_row_is : (first : ℕ) → (first < crosses_of m) × (ends_of m first ≡ (tap, u)) → (r : Row) → r.first ≡ first → r.step ≡ lines_of m n → IsRow m across.Taps u n r
-  line_row_is first found r begins step = record { within = λ i low. subst (λ x. x < crosses_of m) (sym (number i)) (rows.within n i b node low b_low); ends = λ i low. ap (ends_of m) (number i) ∙ rows.ends n i b node low b_low ∙ ap (λ w. (tap_at m n i, w)) is_line }
+  line_row_is first found r begins step = record { ascends = (let lines = step in let some = b_low in omega (arith, lines, some)); node = λ i low. subst (λ x. node_of_cross m x ≡ n) (sym (number i)) (rows.node n i b node low b_low); within = λ i low. subst (λ x. x < crosses_of m) (sym (number i)) (rows.within n i b node low b_low); ends = λ i low. ap (ends_of m) (number i) ∙ rows.ends n i b node low b_low ∙ ap (λ w. (tap_at m n i, w)) is_line }
     where
       ends_first : ends_of m first ≡ (tap_at m n 0, u)
       ends_first = found.1 ∙ ap (λ w. (w, u)) is_first
@@ -170,13 +235,13 @@ no_taps_row m u n count many none i x low = absurd (let no : ⊥ = omega (arith,
 abbrev Listed : Field → List Support → ℕ → ℕ → Type 0
 Listed a links x u = has_number a.crosses x ≡ true → HasLink links x u
 
-module _ {m : Shape} {a : Field} (w node : ℕ) {links : List Support} (tree : IsTree m) (crosses : HasCrosses m) (meetings : HasMeetings m) (home : node ≡ node_of m w) (right : AreInField m a w links) where
+module _ {m : Shape} {a : Field} (w node : ℕ) {links : List Support} (tree : IsTree m) (crosses : HasCrosses m) (meetings : HasMeetings m) (home : node ≡ node_of m w) (right : AreInField m a w links) (ordered : AreInOrder m links) where
   pub links_of_line : ((x : ℕ) → x < crosses_of m → (ends_of m x).0 ≢ w) → AreListed m a links across.Taps w node (taps_of m node) → AreLinksOf m a w links
-  links_of_line no_tap listed = record { right = right; whole = λ x u i. line_around (Listed a links) refl w node tree crosses meetings home no_tap listed x u i.within (Ends-swap i.at) i.has }
+  links_of_line no_tap listed = record { right = right; whole = λ x u i. line_around (Listed a links) refl w node tree crosses meetings home no_tap listed x u i.within (Ends-swap i.at) i.has; ordered = ordered }
 
   pub links_of_tap : HasParents m → ((x : ℕ) → x < crosses_of m → node_of_cross m x ≡ node → (ends_of m x).1 ≢ w) →
       ((n : ℕ) → parent_of m node ≡ Some n → AreListed m a links across.Lines w n (lines_of m n)) → AreListed m a links across.Lines w node (lines_of m node) → AreLinksOf m a w links
-  links_of_tap parents no_line above here = record { right = right; whole = λ x u i. tap_around (Listed a links) refl w node tree crosses meetings home parents no_line above here x u i.within (Ends-swap i.at) i.has }
+  links_of_tap parents no_line above here = record { right = right; whole = λ x u i. tap_around (Listed a links) refl w node tree crosses meetings home parents no_line above here x u i.within (Ends-swap i.at) i.has; ordered = ordered }
 
 -- a node without one above, and with one
 pub none_above : (m : Shape) (node : ℕ) {n : ℕ} → parent_of m node ≡ None → parent_of m node ≡ Some n → ⊥

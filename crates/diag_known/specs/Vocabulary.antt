@@ -6,7 +6,8 @@ pub use Rattle.diag_known.specs.Field.{ClosedIf, GrowsIn, IsClosed, IsFieldOf, T
 pub use Rattle.diag_known.specs.Gains.{Gets, IsWireBefore}
 pub use Rattle.diag_known.specs.Descents.{Descends, DescendsTo, Goes, IsPinAt, IsPinHere, Stays, StepsAlong, StepsDown}
 pub use Rattle.diag_known.specs.Ways.{AreFeetOf, AreWays, IsWay, ReachesAll}
-pub use Rattle.diag_known.specs.Linked.{AreInField, AreLinksOf, AreListed, HasLink, HasMore, IsInField, IsRow, MissesRow}
+pub use Rattle.diag_known.specs.Linked.{AreBelow, AreInField, AreInOrder, AreLinksOf, AreListed, AreOfEarlier, HasLink, HasMore, IsInField, IsRow, MissesRow}
+pub use Rattle.diag_known.specs.Linked.{Precedes, by_node, by_number}
 pub use Rattle.diag_known.specs.Grounds.{Founds, IsBetween, IsFootTo, IsGround, IsSettled, foot_at}
 pub use Rattle.diag_known.specs.Around.{AreLooked, AreLookedAcross, IsLookedAt, IsLookedFrom, across_at, across_of, ends_by}
 pub use Rattle.diag_known.specs.Ranks.{AreRanks, rank_in}

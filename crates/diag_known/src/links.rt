@@ -2,11 +2,11 @@
 //!
 //! No list is kept of them, as it takes 16 bytes or more for each crosspoint: what a wire crosses follows from its node, and its crosspoints
 //! with the lines of a node, or with the taps, stand one every so many.
-ghost use Rattle.std.specs.Prelude.{◌≡◌, ◌≢◌, ◌<◌, ℕ, Some, IfNone, IfOk, IfSome, OnOk};
+ghost use Rattle.std.specs.Prelude.{◌≡◌, ◌≢◌, ◌+◌, ◌<◌, ℕ, Some, [], IfNone, IfOk, IfSome, OnOk};
 ghost use Rattle.machine_shape.specs.Shape.{crosses_of, ends_of, node_of, node_of_cross, nodes_of, parent_of, wires_of};
 ghost use Rattle.diag_known.specs.Around.{across_of};
 ghost use Rattle.diag_known.specs.Field.{IsFieldOf};
-ghost use Rattle.diag_known.specs.Linked.{AreInField, AreLinksOf, AreListed, HasMore, IsRow, MissesRow};
+ghost use Rattle.diag_known.specs.Linked.{AreInField, AreInOrder, AreLinksOf, AreListed, AreOfEarlier, HasMore, IsRow, MissesRow};
 ghost use Rattle.diag_known.specs.declared.looks.Across.TheVariants as across;
 
 use crate::field::Field;
@@ -97,7 +97,11 @@ fn put_row(
     requires from { look.from.0 < wires_of shape.now }
     requires home { look.across ≡ across.Taps → node.0 ≡ node_of shape.now look.from.0 }
     requires right { AreInField shape.now field.now look.from.0 links.old.items }
+    requires ordered { AreInOrder shape.now links.old.items }
+    requires earlier { AreOfEarlier shape.now links.old.items node.0 }
     ensures right { OnOk result (AreInField shape.now field.now look.from.0 links.new.items) }
+    ensures ordered { OnOk result (AreInOrder shape.now links.new.items) }
+    ensures earlier { OnOk result (AreOfEarlier shape.now links.new.items (node.0 + 1)) }
     ensures stays { OnOk result (HasMore links.old.items links.new.items) }
     ensures listed { OnOk result (AreListed shape.now field.now links.new.items look.across look.from.0 node.0
         (across_of shape.now look.across node.0)) }
@@ -118,7 +122,7 @@ fn put_row(
     Ok(())
 }
 
-// Puts the links of a tap: to the lines of the node above, and to those of its own.
+// Puts the links of a tap into an empty list: to the lines of the node above, and to those of its own.
 fn put_rows(
     links: &mut Vec<Support>,
     shape: &Shape,
@@ -129,13 +133,15 @@ fn put_rows(
     requires field { IsFieldOf shape.now field.now }
     requires node { node.0 < nodes_of shape.now }
     requires tap { tap.0 < wires_of shape.now }
-    requires right { AreInField shape.now field.now tap.0 links.old.items }
+    requires none { links.old.items ≡ [] }
     ensures right { OnOk result (AreInField shape.now field.now tap.0 links.new.items) }
+    ensures ordered { OnOk result (AreInOrder shape.now links.new.items) }
     ensures above { OnOk result ((n : ℕ) → parent_of shape.now node.0 ≡ Some n → AreListed shape.now field.now links.new.items across.Lines
         tap.0 n (across_of shape.now across.Lines n)) }
     ensures here { OnOk result (AreListed shape.now field.now links.new.items across.Lines tap.0 node.0
         (across_of shape.now across.Lines node.0)) }
 {
+    the_numbering_is_sound();
     let look = Look {
         from: tap,
         across: Across::Lines,
@@ -147,8 +153,8 @@ fn put_rows(
     put_row(links, shape, field, look, node)
 }
 
-/// The links of a wire: the crosspoints of the field that lead to it, with their other ends, in the order of their numbers. Wants memory,
-/// 8 bytes for each.
+/// The links of a wire: the crosspoints of the field that lead to it, with their other ends, each once: those of the node above before
+/// those of its own, and of one node in the order of their numbers. Wants memory, 8 bytes for each.
 pub fn links_of(
     alloc: Global,
     shape: &Shape,

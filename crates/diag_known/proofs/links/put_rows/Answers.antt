@@ -1,4 +1,4 @@
-use Rattle.diag_known.proofs.Linking.{listed_above, listed_still, none_above}
+use Rattle.diag_known.proofs.Linking.{earlier_more, listed_above, listed_still, none_above, none_earlier, none_in_order, none_listed}
 use Rattle.diag_known.proofs.Settling.{on_ok_so}
 use Rattle.diag_known.specs.Vocabulary.{across_of}
 use Rattle.diag_known.specs.declared.looks.Across.TheVariants as across
