@@ -29,10 +29,8 @@ const PINS_A_LEFT_WIRE: u32 = 16;
 
 const PINS_A_LOST_WIRE: u32 = 7;
 
-/// The place of the suspects of a wire of which nothing was seen, and the forest of a list of its own.
+/// The place of the suspects of a wire of which nothing was seen.
 const NO_SUSPECTS: u32 = u32::MAX;
-
-const NO_FOREST: u32 = u32::MAX;
 
 /// What looks are for.
 #[derive(Clone, Copy, PartialEq, Eq)]
@@ -55,13 +53,13 @@ pub enum Still {
     High,
 }
 
-/// Known wires, to one of which a wire seems to be shorted: those of a list of its own, or all on one tree of the forest of a look. None
-/// where nothing was seen of it.
+/// Known wires, to one of which a wire seems to be shorted.
 #[derive(Drop)]
-struct Suspects {
-    own: Vec<Wire>,
-    forest: u32,
-    pin: u32,
+enum Suspects {
+    /// These. None where nothing was seen of it.
+    Own(Vec<Wire>),
+    /// All on the tree of a pin, of the trees that were listed for a round.
+    Tree { forest: usize, pin: u32 },
 }
 
 /// The wires on each tree of a forest, by its pin. First looks tell of most wires that they are shorted to one on some tree, so trees are
@@ -133,6 +131,13 @@ pub(crate) fn wire_of(wires: &Vec<Option<Wire>>, w: Wire) -> Option<Wire> {
 pub(crate) fn set_wire(wires: &mut Vec<Option<Wire>>, w: Wire, other: Option<Wire>) {
     if (w.0 as usize) < wires.len() {
         wires[w.0 as usize] = other;
+    }
+}
+
+// A forest has a tree that a wire has for suspects.
+fn mark_used(used: &mut Vec<bool>, forest: usize) {
+    if forest < used.len() {
+        used[forest] = true;
     }
 }
 
@@ -240,17 +245,11 @@ impl Chooser {
             .unwrap_or(NO_SUSPECTS) as usize
     }
 
-    // The wires on a tree.
-    fn tree_at(&self, forest: u32, pin: u32) -> Option<&Vec<Wire>> {
-        self.forests.get(forest as usize)?.trees.get(pin as usize)
-    }
-
     /// The known wires to one of which one seems to be shorted, if something was seen of it.
     pub fn suspects_of(&self, w: Wire) -> Option<&Vec<Wire>> {
-        let suspects = self.suspects.get(self.place_of_suspects(w))?;
-        match self.tree_at(suspects.forest, suspects.pin) {
-            Some(wires) => Some(wires),
-            None => Some(&suspects.own),
+        match self.suspects.get(self.place_of_suspects(w))? {
+            Suspects::Own(wires) => Some(wires),
+            Suspects::Tree { forest, pin } => self.forests.get(*forest)?.trees.get(*pin as usize),
         }
     }
 
@@ -281,32 +280,21 @@ impl Chooser {
     pub fn set_suspects(&mut self, w: Wire, wires: Vec<Wire>) -> Result<(), AllocError> {
         let before = self.suspect_count(w);
         self.has_narrowed = self.has_narrowed || before == 0 || wires.len() < before;
-        let suspects = Suspects {
-            own: wires,
-            forest: NO_FOREST,
-            pin: 0,
-        };
-        self.put_suspects(w, suspects)
+        self.put_suspects(w, Suspects::Own(wires))
     }
 
     /// One of which nothing was seen seems to be shorted to one on this tree, of those that were listed last.
     pub fn suspect_tree(&mut self, w: Wire, pin: u32) -> Result<(), AllocError> {
         self.has_narrowed = true;
-        let last = self.forests.len().saturating_sub(1);
-        let suspects = Suspects {
-            own: Vec::new(self.alloc),
-            forest: u32::try_from(last).unwrap_or(NO_FOREST),
-            pin,
-        };
-        self.put_suspects(w, suspects)
+        let forest = self.forests.len().saturating_sub(1);
+        self.put_suspects(w, Suspects::Tree { forest, pin })
     }
 
     /// Nothing was seen of a wire.
     pub fn clear_suspects(&mut self, w: Wire) {
         let place = self.place_of_suspects(w);
         if place < self.suspects.len() {
-            self.suspects[place].own.clear();
-            self.suspects[place].forest = NO_FOREST;
+            self.suspects[place] = Suspects::Own(Vec::new(self.alloc));
         }
     }
 
@@ -340,7 +328,9 @@ impl Chooser {
     fn used_forests(&self) -> Result<Vec<bool>, AllocError> {
         let mut used = vec![in self.alloc; false; self.forests.len()]?;
         'suspects: for suspects in &self.suspects {
-            set_flag(&mut used, suspects.forest, true);
+            if let Suspects::Tree { forest, .. } = suspects {
+                mark_used(&mut used, *forest);
+            }
         }
         Ok(used)
     }
@@ -349,7 +339,7 @@ impl Chooser {
     fn drop_trees(&mut self) -> Result<(), AllocError> {
         let used = self.used_forests()?;
         'forests: for at in 0..self.forests.len() {
-            if at < self.forests.len() && !flag_at(&used, u32::try_from(at).unwrap_or(NO_FOREST)) {
+            if at < self.forests.len() && !used.get(at).copied().unwrap_or(false) {
                 self.forests[at].trees = Vec::new(self.alloc);
             }
         }
