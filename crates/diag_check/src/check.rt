@@ -1,9 +1,10 @@
 //! The test of an image.
-ghost use Rattle.std.specs.Prelude.{◌≡◌, ◌≤◌, ◌+◌, ◌*◌, ℕ, Bool, false, List, Some, IfOk, IsErrOf, IsTrue};
+ghost use Rattle.std.specs.Prelude.{◌≡◌, ◌≤◌, ◌+◌, ◌*◌, ℕ, Bool, List, Some, IfOk, IsErrOf, IsTrue};
 ghost use Rattle.base_bits.specs.Numbers.{size_of};
 ghost use Rattle.base_io.specs.Counts.{Rose};
-ghost use Rattle.diag_evidence.specs.Kept.{Advances, KeepsSet, is_apart};
-ghost use Rattle.diag_known.specs.Vocabulary.{IsFieldOf, IsKnown, KnowsAll};
+ghost use Rattle.diag_evidence.specs.Kept.{Advances, KeepsSet};
+ghost use Rattle.diag_known.specs.Vocabulary.{IsFieldOf, IsKnown};
+ghost use Rattle.diag_sweep.specs.Shown.{IsCoherent};
 ghost use Rattle.rig.specs.Rig.{ForEach, Narrows, Tells, shape_of};
 ghost use Rattle.machine_image.specs.Parts.{IsWideEnough};
 ghost use Rattle.diag_check.specs.Fields.{IsFewFor};
@@ -22,7 +23,7 @@ use base_bits::BitSet;
 use diag_evidence::Facts;
 use diag_evidence::laws::{kept_facts_are_sound, tests_add_up};
 use diag_growth::{Field, Known, grow, test_tables};
-use diag_sweep::{DefectMarks, growth_after_a_sweep_is_paid, sweep};
+use diag_sweep::{Knowledge, growth_after_a_sweep_is_paid, sweep};
 use machine_image::Image;
 use machine_meaning::{parts_of_served_nodes_stand, without_faults_all_is_sound};
 use machine_shape::{
@@ -34,24 +35,21 @@ use std::alloc::{AllocError, Global};
 // Grows in a field, and looks whether the image's wires are known and its crosspoints kept then.
 fn grow_over(
     rig: &mut Box<dyn Rig>,
-    facts: &mut Facts,
-    known: &mut Known,
+    knowledge: &mut Knowledge,
     field: &Field,
     image: &Image,
     used: &BitSet,
 ) -> Result<bool, RigFail>
-    requires attached { shape_of (rig_state rig.old) ≡ Some facts.old.shape }
-    requires known { IsKnown facts.old known.old }
-    requires all { KnowsAll facts.old known.old.steps }
-    requires field { IsFieldOf facts.old.shape field.now }
-    requires image { image.now.config.shape ≡ facts.old.shape }
+    requires attached { shape_of (rig_state rig.old) ≡ Some knowledge.old.facts.shape }
+    requires coherent { IsCoherent knowledge.old }
+    requires field { IsFieldOf knowledge.old.facts.shape field.now }
+    requires image { image.now.config.shape ≡ knowledge.old.facts.shape }
     requires used { AreUsed image.now used.now }
-    ensures known { IsKnown facts.new known.new }
-    ensures all { KnowsAll facts.new known.new.steps }
-    ensures keeps { IfOk result (λ yes. IsTrue yes → KeepsRoutesInSet facts.new image.now) }
-    ensures whole_each { IfOk result (λ yes. ForEach (rig_state rig.new) (λ told. RoutesIf told facts.old facts.new known.new.steps
+    ensures coherent { IsCoherent knowledge.new }
+    ensures keeps { IfOk result (λ yes. IsTrue yes → KeepsRoutesInSet knowledge.new.facts image.now) }
+    ensures whole_each { IfOk result (λ yes. ForEach (rig_state rig.new) (λ told. RoutesIf told knowledge.old.facts knowledge.new.facts knowledge.new.verified.steps
         image.now field.now yes)) }
-    ensures advances { Advances (rig_state rig.old) (rig_state rig.new) facts.old facts.new }
+    ensures advances { Advances (rig_state rig.old) (rig_state rig.new) knowledge.old.facts knowledge.new.facts }
     ensures loads { (rig_state rig.new).loads ≤ (rig_state rig.old).loads + (8 * size_of field.now.crosses + 3 * size_of field.now.wires) }
     ensures cause { IsErrOf result RigFail.Failed → Rose (rig_state rig.old).failures (rig_state rig.new).failures }
 {
@@ -60,8 +58,8 @@ fn grow_over(
     each_wire_has_a_home();
     without_faults_all_is_sound();
     parts_of_served_nodes_stand();
-    match grow(rig, facts, known, field) {
-        Ok(()) => Ok(keeps_routes(facts, known, image, used)),
+    match grow(rig, &mut knowledge.facts, &mut knowledge.verified, field) {
+        Ok(()) => Ok(keeps_routes(&knowledge.facts, &knowledge.verified, image, used)),
         Err(fail) => Err(fail),
     }
 }
@@ -96,33 +94,30 @@ fn look_at_tables(
 // Tests the image in a field: whether that reaches all its wires and crosspoints, and its tables are right.
 fn check_in(
     rig: &mut Box<dyn Rig>,
-    facts: &mut Facts,
-    known: &mut Known,
+    knowledge: &mut Knowledge,
     field: &Field,
     image: &Image,
     used: &BitSet,
 ) -> Result<bool, RigFail>
-    requires attached { shape_of (rig_state rig.old) ≡ Some facts.old.shape }
-    requires known { IsKnown facts.old known.old }
-    requires all { KnowsAll facts.old known.old.steps }
-    requires field { IsFieldOf facts.old.shape field.now }
-    requires image { image.now.config.shape ≡ facts.old.shape }
+    requires attached { shape_of (rig_state rig.old) ≡ Some knowledge.old.facts.shape }
+    requires coherent { IsCoherent knowledge.old }
+    requires field { IsFieldOf knowledge.old.facts.shape field.now }
+    requires image { image.now.config.shape ≡ knowledge.old.facts.shape }
     requires used { AreUsed image.now used.now }
-    ensures known { IsKnown facts.new known.new }
-    ensures all { KnowsAll facts.new known.new.steps }
-    ensures keeps { IfOk result (λ yes. IsTrue yes → KeepsParts facts.new image.now) }
-    ensures whole_each { IfOk result (λ yes. ForEach (rig_state rig.new) (λ told. FieldIf told facts.old image.now field.now yes)) }
-    ensures advances { Advances (rig_state rig.old) (rig_state rig.new) facts.old facts.new }
+    ensures coherent { IsCoherent knowledge.new }
+    ensures keeps { IfOk result (λ yes. IsTrue yes → KeepsParts knowledge.new.facts image.now) }
+    ensures whole_each { IfOk result (λ yes. ForEach (rig_state rig.new) (λ told. FieldIf told knowledge.old.facts image.now field.now yes)) }
+    ensures advances { Advances (rig_state rig.old) (rig_state rig.new) knowledge.old.facts knowledge.new.facts }
     ensures loads { TakesInField image.now used.now field.now (rig_state rig.old).loads (rig_state rig.new).loads }
     ensures cause { IsErrOf result RigFail.Failed → Rose (rig_state rig.old).failures (rig_state rig.new).failures }
 {
     tests_add_up();
-    match grow_over(rig, facts, known, field, image, used) {
+    match grow_over(rig, knowledge, field, image, used) {
         Ok(true) => {}
         Ok(false) => return Ok(false),
         Err(fail) => return Err(fail),
     }
-    look_at_tables(rig, facts, known, image)
+    look_at_tables(rig, &mut knowledge.facts, &knowledge.verified, image)
 }
 
 // How many ports and lines of each involved node a sweep goes over.
@@ -138,38 +133,31 @@ fn is_paid(field: &Field, used: &BitSet) -> bool
 
 // Sweeps a broad field around the image, where that is paid for. What it finds bad is left to growth.
 fn sweep_around(
-    alloc: Global,
     rig: &mut Box<dyn Rig>,
-    facts: &mut Facts,
-    known: &mut Known,
+    knowledge: &mut Knowledge,
     image: &Image,
     parts: &Parts,
 ) -> Result<(), RigFail>
-    requires attached { shape_of (rig_state rig.old) ≡ Some facts.old.shape }
-    requires known { IsKnown facts.old known.old }
-    requires all { KnowsAll facts.old known.old.steps }
-    requires image { image.now.config.shape ≡ facts.old.shape }
+    requires attached { shape_of (rig_state rig.old) ≡ Some knowledge.old.facts.shape }
+    requires coherent { IsCoherent knowledge.old }
+    requires image { image.now.config.shape ≡ knowledge.old.facts.shape }
     requires used { AreUsed image.now parts.now.used }
     requires nodes { AreInvolved image.now parts.now.nodes }
-    ensures known { IsKnown facts.new known.new }
-    ensures all { KnowsAll facts.new known.new.steps }
-    ensures advances { Advances (rig_state rig.old) (rig_state rig.new) facts.old facts.new }
+    ensures coherent { IsCoherent knowledge.new }
+    ensures advances { Advances (rig_state rig.old) (rig_state rig.new) knowledge.old.facts knowledge.new.facts }
     ensures loads { (rig_state rig.new).loads ≤ (rig_state rig.old).loads + 170 * size_of parts.now.used }
     ensures cause { IsErrOf result RigFail.Failed → Rose (rig_state rig.old).failures (rig_state rig.new).failures }
 {
     tests_add_up();
     growth_after_a_sweep_is_paid();
-    let Ok(field) = field_of(alloc, image, parts, BROAD) else {
+    let Ok(field) = field_of(knowledge.verified.alloc(), image, parts, BROAD) else {
         return Err(RigFail::Memory);
     };
     if !is_paid(&field, &parts.used) {
         return Ok(());
     }
-    let Ok(mut bad) = DefectMarks::none(alloc, &facts.shape()) else {
-        return Err(RigFail::Memory);
-    };
     let config = image.config();
-    sweep(rig, facts, known, &mut bad, &field, config.tables_on())
+    sweep(rig, knowledge, &field, config.tables_on())
 }
 
 // The fields in which an image is tested: the narrow one has two ports and lines of each involved node, the wide one all that surrounds
@@ -197,96 +185,60 @@ fn fields_of(alloc: Global, image: &Image, parts: &Parts) -> Result<TestFields, 
 // Sweeps around the image, and then tests it in the narrow field, and where that isn't enough in the wide one.
 fn check_over(
     rig: &mut Box<dyn Rig>,
-    facts: &mut Facts,
-    known: &mut Known,
+    knowledge: &mut Knowledge,
     image: &Image,
     parts: &Parts,
     fields: &TestFields,
 ) -> Result<bool, RigFail>
-    requires attached { shape_of (rig_state rig.old) ≡ Some facts.old.shape }
-    requires image { image.now.config.shape ≡ facts.old.shape }
+    requires attached { shape_of (rig_state rig.old) ≡ Some knowledge.old.facts.shape }
+    requires image { image.now.config.shape ≡ knowledge.old.facts.shape }
     requires used { AreUsed image.now parts.now.used }
     requires nodes { AreInvolved image.now parts.now.nodes }
-    requires known { IsKnown facts.old known.old }
-    requires all { KnowsAll facts.old known.old.steps }
+    requires coherent { IsCoherent knowledge.old }
     requires narrow { IsFieldOf image.now.config.shape fields.now.narrow }
     requires narrow_whole { IsWideEnough image.now.config.shape image.now → HasSkeleton image.now fields.now.narrow }
     requires narrow_few { IsFewFor image.now parts.now.nodes parts.now.used 2 fields.now.narrow }
     requires wide { IsFieldOf image.now.config.shape fields.now.wide }
     requires wide_whole { AreSurroundings image.now fields.now.wide }
-    ensures keeps { IfOk result (λ yes. IsTrue yes → KeepsParts facts.new image.now) }
-    ensures whole_each { IfOk result (λ yes. ForEach (rig_state rig.new) (λ told. WholeIf told facts.old image.now yes)) }
-    ensures advances { Advances (rig_state rig.old) (rig_state rig.new) facts.old facts.new }
+    ensures keeps { IfOk result (λ yes. IsTrue yes → KeepsParts knowledge.new.facts image.now) }
+    ensures whole_each { IfOk result (λ yes. ForEach (rig_state rig.new) (λ told. WholeIf told knowledge.old.facts image.now yes)) }
+    ensures advances { Advances (rig_state rig.old) (rig_state rig.new) knowledge.old.facts knowledge.new.facts }
     ensures loads { TakesAround image.now parts.now.nodes parts.now.used (rig_state rig.old).loads (rig_state rig.new).loads }
-    ensures few_each { ForEach (rig_state rig.new) (λ told. FewerIf told facts.old image.now parts.now.nodes parts.now.used
+    ensures few_each { ForEach (rig_state rig.new) (λ told. FewerIf told knowledge.old.facts image.now parts.now.nodes parts.now.used
         (rig_state rig.old).loads (rig_state rig.new).loads) }
     ensures cause { IsErrOf result RigFail.Failed → Rose (rig_state rig.old).failures (rig_state rig.new).failures }
 {
     tests_add_up();
-    match sweep_around(known.alloc(), rig, facts, known, image, parts) {
+    match sweep_around(rig, knowledge, image, parts) {
         Ok(()) => {}
         Err(fail) => return Err(fail),
     }
-    match check_in(rig, facts, known, &fields.narrow, image, &parts.used) {
+    match check_in(rig, knowledge, &fields.narrow, image, &parts.used) {
         Ok(true) => return Ok(true),
         Ok(false) => {}
         Err(fail) => return Err(fail),
     }
-    check_in(rig, facts, known, &fields.wide, image, &parts.used)
-}
-
-// The same, with no known wires at first.
-fn check_in_both(
-    alloc: Global,
-    rig: &mut Box<dyn Rig>,
-    facts: &mut Facts,
-    image: &Image,
-    parts: &Parts,
-    fields: &TestFields,
-) -> Result<bool, RigFail>
-    requires attached { shape_of (rig_state rig.old) ≡ Some facts.old.shape }
-    requires image { image.now.config.shape ≡ facts.old.shape }
-    requires nothing { (w : ℕ) → is_apart facts.old w ≡ false }
-    requires used { AreUsed image.now parts.now.used }
-    requires nodes { AreInvolved image.now parts.now.nodes }
-    requires narrow { IsFieldOf image.now.config.shape fields.now.narrow }
-    requires narrow_whole { IsWideEnough image.now.config.shape image.now → HasSkeleton image.now fields.now.narrow }
-    requires narrow_few { IsFewFor image.now parts.now.nodes parts.now.used 2 fields.now.narrow }
-    requires wide { IsFieldOf image.now.config.shape fields.now.wide }
-    requires wide_whole { AreSurroundings image.now fields.now.wide }
-    ensures keeps { IfOk result (λ yes. IsTrue yes → KeepsParts facts.new image.now) }
-    ensures whole_each { IfOk result (λ yes. ForEach (rig_state rig.new) (λ told. WholeIf told facts.old image.now yes)) }
-    ensures advances { Advances (rig_state rig.old) (rig_state rig.new) facts.old facts.new }
-    ensures loads { TakesAround image.now parts.now.nodes parts.now.used (rig_state rig.old).loads (rig_state rig.new).loads }
-    ensures few_each { ForEach (rig_state rig.new) (λ told. FewerIf told facts.old image.now parts.now.nodes parts.now.used
-        (rig_state rig.old).loads (rig_state rig.new).loads) }
-    ensures cause { IsErrOf result RigFail.Failed → Rose (rig_state rig.old).failures (rig_state rig.new).failures }
-{
-    tests_add_up();
-    let Ok(mut known) = Known::new(alloc, &facts.shape()) else {
-        return Err(RigFail::Memory);
-    };
-    check_over(rig, facts, &mut known, image, parts, fields)
+    check_in(rig, knowledge, &fields.wide, image, &parts.used)
 }
 
 // Makes the fields of an image, and tests it in them.
 fn check_with(
     alloc: Global,
     rig: &mut Box<dyn Rig>,
-    facts: &mut Facts,
+    knowledge: &mut Knowledge,
     image: &Image,
     parts: &Parts,
 ) -> Result<bool, RigFail>
-    requires attached { shape_of (rig_state rig.old) ≡ Some facts.old.shape }
-    requires image { image.now.config.shape ≡ facts.old.shape }
-    requires nothing { (w : ℕ) → is_apart facts.old w ≡ false }
+    requires attached { shape_of (rig_state rig.old) ≡ Some knowledge.old.facts.shape }
+    requires image { image.now.config.shape ≡ knowledge.old.facts.shape }
+    requires coherent { IsCoherent knowledge.old }
     requires used { AreUsed image.now parts.now.used }
     requires nodes { AreInvolved image.now parts.now.nodes }
-    ensures keeps { IfOk result (λ yes. IsTrue yes → KeepsParts facts.new image.now) }
-    ensures whole_each { IfOk result (λ yes. ForEach (rig_state rig.new) (λ told. WholeIf told facts.old image.now yes)) }
-    ensures advances { Advances (rig_state rig.old) (rig_state rig.new) facts.old facts.new }
+    ensures keeps { IfOk result (λ yes. IsTrue yes → KeepsParts knowledge.new.facts image.now) }
+    ensures whole_each { IfOk result (λ yes. ForEach (rig_state rig.new) (λ told. WholeIf told knowledge.old.facts image.now yes)) }
+    ensures advances { Advances (rig_state rig.old) (rig_state rig.new) knowledge.old.facts knowledge.new.facts }
     ensures loads { TakesAround image.now parts.now.nodes parts.now.used (rig_state rig.old).loads (rig_state rig.new).loads }
-    ensures few_each { ForEach (rig_state rig.new) (λ told. FewerIf told facts.old image.now parts.now.nodes parts.now.used
+    ensures few_each { ForEach (rig_state rig.new) (λ told. FewerIf told knowledge.old.facts image.now parts.now.nodes parts.now.used
         (rig_state rig.old).loads (rig_state rig.new).loads) }
     ensures cause { IsErrOf result RigFail.Failed → Rose (rig_state rig.old).failures (rig_state rig.new).failures }
 {
@@ -294,7 +246,7 @@ fn check_with(
     let Ok(fields) = fields_of(alloc, image, parts) else {
         return Err(RigFail::Memory);
     };
-    check_in_both(alloc, rig, facts, image, parts, &fields)
+    check_over(rig, knowledge, image, parts, &fields)
 }
 
 /// Whether an image still runs on the attached machine as on one without faults. Each part of it is tested over routes of the
@@ -332,8 +284,8 @@ pub fn quick_check(
     let Ok(parts) = parts_of(alloc, image) else {
         return Err(RigFail::Memory);
     };
-    let Ok(mut facts) = Facts::new(alloc, *shape) else {
+    let Ok(mut knowledge) = Knowledge::none(alloc, shape) else {
         return Err(RigFail::Memory);
     };
-    check_with(alloc, rig, &mut facts, image, &parts)
+    check_with(alloc, rig, &mut knowledge, image, &parts)
 }

@@ -21,6 +21,8 @@ pub use Rattle.diag_known.specs.declared.verified_wire.VerifiedWire.{VerifiedWir
 pub use Rattle.diag_known.specs.Vocabulary.{ClosedIf, GrowsIn, HasWire, IsFieldOf, IsKeptCrossOf, IsKnown, KnownWires, pins_in}
 pub use Rattle.diag_growth.specs.Seats.{AddsOnlyTableFacts, KeepsTable}
 pub use Rattle.diag_sweep.specs.declared.defect_marks.DefectMarks.{DefectMarks}
+pub use Rattle.diag_sweep.specs.declared.knowledge.Knowledge.{Knowledge}
+pub use Rattle.diag_sweep.specs.Shown.{IsCoherent, ProgressButPairs, TrueOf}
 pub use Rattle.diag_sweep.specs.Marks.{AreMarksFor, HasTable, MarksIn, TrueIf, worth}
 pub use Rattle.diag_machine.specs.Choice.{AreLeftOut, IsKnownFoot, IsLeftOut}
 pub use Rattle.diag_machine.specs.Listing.{IsListOf, IsListing}

@@ -1,14 +1,15 @@
 //! The whole machine: from tests to a list of defects.
-ghost use Rattle.std.specs.Prelude.{◌≡◌, ◌⊎◌, ◌≤◌, ◌<◌, ◌+◌, ◌*◌, ℕ, true, false, All, List, Some, IfOk, OnOk, IsErrOf, length};
+ghost use Rattle.std.specs.Prelude.{◌≡◌, ◌⊎◌, ◌≤◌, ◌<◌, ◌+◌, ◌*◌, ℕ, true, false, All, Option, Some, IfOk, OnOk, IsErrOf, length};
 ghost use Rattle.base_bits.specs.Numbers.{has_number, size_of};
 ghost use Rattle.base_io.specs.Counts.{Rose};
 ghost use Rattle.machine_shape.specs.Shape.{tables_of, wires_of};
+ghost use Rattle.machine_meaning.specs.Faults.{Faults};
 ghost use Rattle.rig.specs.Rig.{ForEach, Narrows, Tells, shape_of};
-ghost use Rattle.diag_evidence.specs.Kept.{Advances, AdvancesButPairs, FewCycles, KeepsNothing, TakesFewCycles, is_apart};
-ghost use Rattle.diag_known.specs.Vocabulary.{IsFieldOf, pins_in, IsKnown, KnowsAll};
-ghost use Rattle.diag_known.specs.declared.verified_wire.VerifiedWire.{VerifiedWire};
+ghost use Rattle.diag_evidence.specs.Kept.{Advances, AdvancesButPairs, FewCycles, KeepsNothing, TakesFewCycles};
+ghost use Rattle.diag_known.specs.Vocabulary.{IsFieldOf, pins_in, IsKnown};
 ghost use Rattle.diag_growth.specs.Seats.{AddsOnlyTableFacts};
 ghost use Rattle.diag_sweep.specs.Marks.{AreMarksFor, HasTable, TrueIf, undecided, worth};
+ghost use Rattle.diag_sweep.specs.Shown.{IsCoherent, ProgressButPairs, TrueOf};
 ghost use Rattle.diag_machine.specs.Diagnosis.{IsDiagnosis, TakesAtMost, TakesFewLoads};
 ghost use Rattle.diag_machine.specs.Stages.{IfFaultless, IsWhole, ReachedIf, TablesIf, loads_for};
 
@@ -19,7 +20,7 @@ use diag_evidence::Facts;
 use diag_evidence::laws::{kept_facts_are_sound, tests_add_up};
 use diag_growth::{Field, Known, grow, test_tables};
 use diag_sweep::{
-    Choices, DefectMarks, choose, closed_without_bad, growth_without_bad_is_paid, sweep,
+    Choices, DefectMarks, Knowledge, choose, closed_without_bad, growth_without_bad_is_paid, sweep,
     sweep_with, without_bad,
 };
 use machine_defects::Defects;
@@ -93,64 +94,45 @@ fn first_state(alloc: Global, facts: &Facts) -> Result<DiagnosisState, AllocErro
 // Chooses which of shorted wires stays known, and sweeps anew if some give way. Says whether they did.
 fn choose_once(
     rig: &mut Box<dyn Rig>,
-    facts: &mut Facts,
-    known: &mut Known,
-    bad: &mut DefectMarks,
+    knowledge: &mut Knowledge,
     state: &mut DiagnosisState,
 ) -> Result<bool, RigFail>
-    requires attached { shape_of (rig_state rig.old) ≡ Some facts.old.shape }
-    requires known { IsKnown facts.old known.old }
-    requires all { KnowsAll facts.old known.old.steps }
-    requires field { IsFieldOf facts.old.shape state.old.field }
-    requires marks { AreMarksFor facts.old.shape bad.old }
-    requires right_each { ForEach (rig_state rig.old) (λ told. TrueIf told facts.old known.old.steps bad.old) }
-    ensures known { IsKnown facts.new known.new }
-    ensures all { KnowsAll facts.new known.new.steps }
+    requires attached { shape_of (rig_state rig.old) ≡ Some knowledge.old.facts.shape }
+    requires coherent { IsCoherent knowledge.old }
+    requires field { IsFieldOf knowledge.old.facts.shape state.old.field }
     ensures field { state.new.field ≡ state.old.field }
-    ensures marks { AreMarksFor facts.old.shape bad.new }
-    ensures right_each { ForEach (rig_state rig.new) (λ told. TrueIf told facts.new known.new.steps bad.new) }
-    ensures same { IfOk result (λ chosen. chosen ≡ false → known.new ≡ known.old) }
-    ensures pays { worth state.new.field facts.new bad.new (rig_state rig.new).loads state.new.choices.left
-        ≤ worth state.old.field facts.old bad.old (rig_state rig.old).loads state.old.choices.left }
+    ensures same { IfOk result (λ chosen. chosen ≡ false → knowledge.new.verified ≡ knowledge.old.verified) }
+    ensures pays { worth state.new.field knowledge.new.facts knowledge.new.marks (rig_state rig.new).loads state.new.choices.left
+        ≤ worth state.old.field knowledge.old.facts knowledge.old.marks (rig_state rig.old).loads state.old.choices.left }
     ensures paid { state.new.choices.paid ≡ state.old.choices.paid }
-    ensures advances { AdvancesButPairs (rig_state rig.old) (rig_state rig.new) facts.old facts.new }
+    ensures progress { ProgressButPairs (rig_state rig.old) (rig_state rig.new) knowledge.old knowledge.new }
     ensures cause { IsErrOf result RigFail.Failed → Rose (rig_state rig.old).failures (rig_state rig.new).failures }
 {
-    let choices = &mut state.choices;
-    if !choose(rig, facts, known, bad, &state.field, choices)? {
+    if !choose(rig, knowledge, &state.field, &mut state.choices)? {
         return Ok(false);
     }
-    sweep_with(rig, facts, known, bad, &state.field, &mut state.choices)?;
+    sweep_with(rig, knowledge, &state.field, &mut state.choices)?;
     Ok(true)
 }
 
 // The same as long as some give way, a few times.
 fn choose_all(
     rig: &mut Box<dyn Rig>,
-    facts: &mut Facts,
-    known: &mut Known,
-    bad: &mut DefectMarks,
+    knowledge: &mut Knowledge,
     state: &mut DiagnosisState,
 ) -> Result<(), RigFail>
-    requires attached { shape_of (rig_state rig.old) ≡ Some facts.old.shape }
-    requires known { IsKnown facts.old known.old }
-    requires all { KnowsAll facts.old known.old.steps }
-    requires field { IsFieldOf facts.old.shape state.old.field }
-    requires marks { AreMarksFor facts.old.shape bad.old }
-    requires right_each { ForEach (rig_state rig.old) (λ told. TrueIf told facts.old known.old.steps bad.old) }
-    ensures known { IsKnown facts.new known.new }
-    ensures all { KnowsAll facts.new known.new.steps }
+    requires attached { shape_of (rig_state rig.old) ≡ Some knowledge.old.facts.shape }
+    requires coherent { IsCoherent knowledge.old }
+    requires field { IsFieldOf knowledge.old.facts.shape state.old.field }
     ensures field { state.new.field ≡ state.old.field }
-    ensures marks { AreMarksFor facts.old.shape bad.new }
-    ensures right_each { ForEach (rig_state rig.new) (λ told. TrueIf told facts.new known.new.steps bad.new) }
-    ensures pays { worth state.new.field facts.new bad.new (rig_state rig.new).loads state.new.choices.left
-        ≤ worth state.old.field facts.old bad.old (rig_state rig.old).loads state.old.choices.left }
+    ensures pays { worth state.new.field knowledge.new.facts knowledge.new.marks (rig_state rig.new).loads state.new.choices.left
+        ≤ worth state.old.field knowledge.old.facts knowledge.old.marks (rig_state rig.old).loads state.old.choices.left }
     ensures paid { state.new.choices.paid ≡ state.old.choices.paid }
-    ensures advances { AdvancesButPairs (rig_state rig.old) (rig_state rig.new) facts.old facts.new }
+    ensures progress { ProgressButPairs (rig_state rig.old) (rig_state rig.new) knowledge.old knowledge.new }
     ensures cause { IsErrOf result RigFail.Failed → Rose (rig_state rig.old).failures (rig_state rig.new).failures }
 {
     'choices: for _choice in 0..MOST_CHOICES {
-        if !choose_once(rig, facts, known, bad, state)? {
+        if !choose_once(rig, knowledge, state)? {
             return Ok(());
         }
     }
@@ -160,110 +142,89 @@ fn choose_all(
 // The whole machine is swept, once and behind choices.
 fn sweep_whole(
     rig: &mut Box<dyn Rig>,
-    facts: &mut Facts,
-    known: &mut Known,
-    bad: &mut DefectMarks,
+    knowledge: &mut Knowledge,
     state: &mut DiagnosisState,
 ) -> Result<(), RigFail>
-    requires attached { shape_of (rig_state rig.old) ≡ Some facts.old.shape }
-    requires known { IsKnown facts.old known.old }
-    requires all { KnowsAll facts.old known.old.steps }
-    requires field { IsFieldOf facts.old.shape state.old.field }
-    requires marks { AreMarksFor facts.old.shape bad.old }
-    requires right_each { ForEach (rig_state rig.old) (λ told. TrueIf told facts.old known.old.steps bad.old) }
-    requires paid { length state.old.choices.paid ≡ wires_of facts.old.shape }
-    ensures known { IsKnown facts.new known.new }
-    ensures all { KnowsAll facts.new known.new.steps }
+    requires attached { shape_of (rig_state rig.old) ≡ Some knowledge.old.facts.shape }
+    requires coherent { IsCoherent knowledge.old }
+    requires field { IsFieldOf knowledge.old.facts.shape state.old.field }
+    requires right_each { ForEach (rig_state rig.old) (λ told. TrueOf told knowledge.old) }
+    requires paid { length state.old.choices.paid ≡ wires_of knowledge.old.facts.shape }
     ensures field { state.new.field ≡ state.old.field }
-    ensures marks { AreMarksFor facts.old.shape bad.new }
-    ensures right_each { ForEach (rig_state rig.new) (λ told. TrueIf told facts.new known.new.steps bad.new) }
-    ensures pays { worth state.new.field facts.new bad.new (rig_state rig.new).loads state.new.choices.left
+    ensures pays { worth state.new.field knowledge.new.facts knowledge.new.marks (rig_state rig.new).loads state.new.choices.left
         + 14 * size_of state.old.choices.paid
-        ≤ worth state.old.field facts.old bad.old (rig_state rig.old).loads state.old.choices.left
-        + (pins_in facts.old.shape state.old.field + 14 * size_of state.new.choices.paid) }
-    ensures few_each { ForEach (rig_state rig.new) (λ told. IfFaultless told facts.old (state.new.choices.paid ≡ state.old.choices.paid)) }
+        ≤ worth state.old.field knowledge.old.facts knowledge.old.marks (rig_state rig.old).loads state.old.choices.left
+        + (pins_in knowledge.old.facts.shape state.old.field + 14 * size_of state.new.choices.paid) }
+    ensures few_each { ForEach (rig_state rig.new) (λ told. IfFaultless told knowledge.old.facts (state.new.choices.paid ≡ state.old.choices.paid)) }
     ensures paid { length state.new.choices.paid ≡ length state.old.choices.paid }
-    ensures advances { AdvancesButPairs (rig_state rig.old) (rig_state rig.new) facts.old facts.new }
+    ensures progress { ProgressButPairs (rig_state rig.old) (rig_state rig.new) knowledge.old knowledge.new }
     ensures cause { IsErrOf result RigFail.Failed → Rose (rig_state rig.old).failures (rig_state rig.new).failures }
 {
-    let Ok(tables) = all_tables(known.alloc(), &facts.shape()) else {
+    let alloc = knowledge.verified.alloc();
+    let Ok(tables) = all_tables(alloc, &knowledge.facts.shape()) else {
         return Err(RigFail::Memory);
     };
-    sweep(rig, facts, known, bad, &state.field, &tables)?;
-    let Ok(unfit) = unfit_wires(known.alloc(), known, bad) else {
+    sweep(rig, knowledge, &state.field, &tables)?;
+    let Ok(unfit) = unfit_wires(alloc, &knowledge.verified, &knowledge.marks) else {
         return Err(RigFail::Memory);
     };
     state.choices.pay_for(&unfit);
-    choose_all(rig, facts, known, bad, state)
+    choose_all(rig, knowledge, state)
 }
 
 // What is known grows in what isn't marked bad.
 fn grow_whole(
     rig: &mut Box<dyn Rig>,
-    facts: &mut Facts,
-    known: &mut Known,
-    bad: &DefectMarks,
+    knowledge: &mut Knowledge,
     field: &Field,
 ) -> Result<(), RigFail>
-    requires attached { shape_of (rig_state rig.old) ≡ Some facts.old.shape }
-    requires known { IsKnown facts.old known.old }
-    requires all { KnowsAll facts.old known.old.steps }
-    requires field { IsFieldOf facts.old.shape field.now }
-    requires whole { IsWhole facts.old.shape field.now }
-    requires marks { AreMarksFor facts.old.shape bad.now }
-    requires right_each { ForEach (rig_state rig.old) (λ told. TrueIf told facts.old known.old.steps bad.now) }
-    ensures known { IsKnown facts.new known.new }
-    ensures all { KnowsAll facts.new known.new.steps }
-    ensures right_each { ForEach (rig_state rig.new) (λ told. TrueIf told facts.new known.new.steps bad.now) }
-    ensures reached_each { OnOk result (ForEach (rig_state rig.new) (λ told. ReachedIf told facts.new known.new.steps)) }
-    ensures loads { (rig_state rig.new).loads + pins_in facts.old.shape field.now
-        ≤ (rig_state rig.old).loads + (8 * undecided facts.old bad.now field.now + 3 * size_of field.now.wires) }
-    ensures few_each { ForEach (rig_state rig.new) (λ told. IfFaultless told facts.old ((rig_state rig.new).loads + pins_in
-        facts.old.shape field.now ≤ (rig_state rig.old).loads + (2 * undecided facts.old bad.now field.now + 3 * size_of
-        field.now.wires))) }
-    ensures advances { AdvancesButPairs (rig_state rig.old) (rig_state rig.new) facts.old facts.new }
+    requires attached { shape_of (rig_state rig.old) ≡ Some knowledge.old.facts.shape }
+    requires coherent { IsCoherent knowledge.old }
+    requires field { IsFieldOf knowledge.old.facts.shape field.now }
+    requires whole { IsWhole knowledge.old.facts.shape field.now }
+    requires right_each { ForEach (rig_state rig.old) (λ told. TrueOf told knowledge.old) }
+    ensures reached_each { OnOk result (ForEach (rig_state rig.new) (λ told. ReachedIf told knowledge.new.facts knowledge.new.verified.steps)) }
+    ensures loads { (rig_state rig.new).loads + pins_in knowledge.old.facts.shape field.now
+        ≤ (rig_state rig.old).loads + (8 * undecided knowledge.old.facts knowledge.old.marks field.now + 3 * size_of field.now.wires) }
+    ensures few_each { ForEach (rig_state rig.new) (λ told. IfFaultless told knowledge.old.facts ((rig_state rig.new).loads + pins_in
+        knowledge.old.facts.shape field.now ≤ (rig_state rig.old).loads + (2 * undecided knowledge.old.facts knowledge.old.marks
+        field.now + 3 * size_of field.now.wires))) }
+    ensures progress { ProgressButPairs (rig_state rig.old) (rig_state rig.new) knowledge.old knowledge.new }
     ensures cause { IsErrOf result RigFail.Failed → Rose (rig_state rig.old).failures (rig_state rig.new).failures }
 {
     the_numbering_is_sound();
     closed_without_bad();
     growth_without_bad_is_paid();
-    let Ok(rest) = without_bad(known.alloc(), bad, field) else {
+    let Ok(rest) = without_bad(knowledge.verified.alloc(), &knowledge.marks, field) else {
         return Err(RigFail::Memory);
     };
-    grow(rig, facts, known, &rest)
+    grow(rig, &mut knowledge.facts, &mut knowledge.verified, &rest)
 }
 
 // Where growth has lost pins of tables, and some wires give way for them, the machine is swept and what is known grows once more.
 fn know_lost(
     rig: &mut Box<dyn Rig>,
-    facts: &mut Facts,
-    known: &mut Known,
-    bad: &mut DefectMarks,
+    knowledge: &mut Knowledge,
     state: &mut DiagnosisState,
 ) -> Result<(), RigFail>
-    requires attached { shape_of (rig_state rig.old) ≡ Some facts.old.shape }
-    requires known { IsKnown facts.old known.old }
-    requires all { KnowsAll facts.old known.old.steps }
-    requires field { IsFieldOf facts.old.shape state.old.field }
-    requires marks { AreMarksFor facts.old.shape bad.old }
-    requires right_each { ForEach (rig_state rig.old) (λ told. TrueIf told facts.old known.old.steps bad.old) }
-    requires whole { IsWhole facts.old.shape state.old.field }
-    requires paid { length state.old.choices.paid ≡ wires_of facts.old.shape }
-    requires reached_each { ForEach (rig_state rig.old) (λ told. ReachedIf told facts.old known.old.steps) }
-    ensures known { IsKnown facts.new known.new }
-    ensures all { KnowsAll facts.new known.new.steps }
-    ensures marks { AreMarksFor facts.old.shape bad.new }
-    ensures right_each { ForEach (rig_state rig.new) (λ told. TrueIf told facts.new known.new.steps bad.new) }
-    ensures reached_each { OnOk result (ForEach (rig_state rig.new) (λ told. ReachedIf told facts.new known.new.steps)) }
+    requires attached { shape_of (rig_state rig.old) ≡ Some knowledge.old.facts.shape }
+    requires coherent { IsCoherent knowledge.old }
+    requires field { IsFieldOf knowledge.old.facts.shape state.old.field }
+    requires right_each { ForEach (rig_state rig.old) (λ told. TrueOf told knowledge.old) }
+    requires whole { IsWhole knowledge.old.facts.shape state.old.field }
+    requires paid { length state.old.choices.paid ≡ wires_of knowledge.old.facts.shape }
+    requires reached_each { ForEach (rig_state rig.old) (λ told. ReachedIf told knowledge.old.facts knowledge.old.verified.steps) }
+    ensures reached_each { OnOk result (ForEach (rig_state rig.new) (λ told. ReachedIf told knowledge.new.facts knowledge.new.verified.steps)) }
     ensures loads { (rig_state rig.new).loads + 14 * size_of state.old.choices.paid
-        ≤ (rig_state rig.old).loads + (state.old.choices.left + (loads_for facts.old 8 3 + 14 * wires_of facts.old.shape)) }
-    ensures few_each { ForEach (rig_state rig.new) (λ told. IfFaultless told facts.old ((rig_state rig.new).loads ≤ (rig_state
+        ≤ (rig_state rig.old).loads + (state.old.choices.left + (loads_for knowledge.old.facts 8 3 + 14 * wires_of knowledge.old.facts.shape)) }
+    ensures few_each { ForEach (rig_state rig.new) (λ told. IfFaultless told knowledge.old.facts ((rig_state rig.new).loads ≤ (rig_state
         rig.old).loads)) }
-    ensures advances { AdvancesButPairs (rig_state rig.old) (rig_state rig.new) facts.old facts.new }
+    ensures progress { ProgressButPairs (rig_state rig.old) (rig_state rig.new) knowledge.old knowledge.new }
     ensures cause { IsErrOf result RigFail.Failed → Rose (rig_state rig.old).failures (rig_state rig.new).failures }
 {
     growth_without_bad_is_paid();
-    let Ok(found) = lost_pins(known.alloc(), facts, known) else {
+    let alloc = knowledge.verified.alloc();
+    let Ok(found) = lost_pins(alloc, &knowledge.facts, &knowledge.verified) else {
         return Err(RigFail::Memory);
     };
     let Some(lost) = found else {
@@ -271,113 +232,69 @@ fn know_lost(
     };
     state.choices.pay_for(&lost);
     let before = loads_since(rig, 0);
-    if !choose_once(rig, facts, known, bad, state)? {
+    if !choose_once(rig, knowledge, state)? {
         state.swept = state.swept.saturating_add(loads_since(rig, before));
         return Ok(());
     }
     state.swept = state.swept.saturating_add(loads_since(rig, before));
-    grow_whole(rig, facts, known, bad, &state.field)
+    grow_whole(rig, knowledge, &state.field)
 }
 
 // The machine is swept, what is known grows, and wires that growth has lost are tried again.
 fn know_all(
     rig: &mut Box<dyn Rig>,
-    facts: &mut Facts,
-    known: &mut Known,
-    bad: &mut DefectMarks,
+    knowledge: &mut Knowledge,
     state: &mut DiagnosisState,
 ) -> Result<(), RigFail>
-    requires attached { shape_of (rig_state rig.old) ≡ Some facts.old.shape }
-    requires known { IsKnown facts.old known.old }
-    requires all { KnowsAll facts.old known.old.steps }
-    requires marks { AreMarksFor facts.old.shape bad.old }
-    requires right_each { ForEach (rig_state rig.old) (λ told. TrueIf told facts.old known.old.steps bad.old) }
-    requires field { IsFieldOf facts.old.shape state.old.field }
-    requires whole { IsWhole facts.old.shape state.old.field }
+    requires attached { shape_of (rig_state rig.old) ≡ Some knowledge.old.facts.shape }
+    requires coherent { IsCoherent knowledge.old }
+    requires right_each { ForEach (rig_state rig.old) (λ told. TrueOf told knowledge.old) }
+    requires field { IsFieldOf knowledge.old.facts.shape state.old.field }
+    requires whole { IsWhole knowledge.old.facts.shape state.old.field }
     requires left { state.old.choices.left ≡ 0 }
-    requires paid { length state.old.choices.paid ≡ wires_of facts.old.shape }
+    requires paid { length state.old.choices.paid ≡ wires_of knowledge.old.facts.shape }
     requires none { size_of state.old.choices.paid ≡ 0 }
-    ensures known { OnOk result (IsKnown facts.new known.new) }
-    ensures marks { AreMarksFor facts.old.shape bad.new }
-    ensures right_each { OnOk result (ForEach (rig_state rig.new) (λ told. TrueIf told facts.new known.new.steps bad.new)) }
-    ensures reached_each { OnOk result (ForEach (rig_state rig.new) (λ told. ReachedIf told facts.new known.new.steps)) }
-    ensures advances { AdvancesButPairs (rig_state rig.old) (rig_state rig.new) facts.old facts.new }
-    ensures loads { (rig_state rig.new).loads ≤ (rig_state rig.old).loads + loads_for facts.old 16 20 }
-    ensures few_each { ForEach (rig_state rig.new) (λ told. IfFaultless told facts.old ((rig_state rig.new).loads ≤ (rig_state
-        rig.old).loads + loads_for facts.old 2 3)) }
+    ensures reached_each { OnOk result (ForEach (rig_state rig.new) (λ told. ReachedIf told knowledge.new.facts knowledge.new.verified.steps)) }
+    ensures progress { ProgressButPairs (rig_state rig.old) (rig_state rig.new) knowledge.old knowledge.new }
+    ensures loads { (rig_state rig.new).loads ≤ (rig_state rig.old).loads + loads_for knowledge.old.facts 16 20 }
+    ensures few_each { ForEach (rig_state rig.new) (λ told. IfFaultless told knowledge.old.facts ((rig_state rig.new).loads ≤ (rig_state
+        rig.old).loads + loads_for knowledge.old.facts 2 3)) }
     ensures cause { IsErrOf result RigFail.Failed → Rose (rig_state rig.old).failures (rig_state rig.new).failures }
 {
     tests_add_up();
     growth_without_bad_is_paid();
     let before = loads_since(rig, 0);
-    sweep_whole(rig, facts, known, bad, state)?;
+    sweep_whole(rig, knowledge, state)?;
     state.swept = loads_since(rig, before);
-    grow_whole(rig, facts, known, bad, &state.field)?;
-    know_lost(rig, facts, known, bad, state)?;
+    grow_whole(rig, knowledge, &state.field)?;
+    know_lost(rig, knowledge, state)?;
     Ok(())
 }
 
-// The same from the first on. Says how many loads sweeps took.
+// The same from the first on: the known wires of the machine. Where wires are shorted, those stay that pins of tables need, as far as that
+// is found. Says how many loads sweeps took.
 fn know_from_first(
     alloc: Global,
     rig: &mut Box<dyn Rig>,
-    facts: &mut Facts,
-    known: &mut Known,
-    bad: &mut DefectMarks,
+    knowledge: &mut Knowledge,
     parts: &mut Parts,
 ) -> Result<(), RigFail>
-    requires attached { shape_of (rig_state rig.old) ≡ Some facts.old.shape }
-    requires known { IsKnown facts.old known.old }
-    requires all { KnowsAll facts.old known.old.steps }
-    requires marks { AreMarksFor facts.old.shape bad.old }
-    requires right_each { ForEach (rig_state rig.old) (λ told. TrueIf told facts.old known.old.steps bad.old) }
-    ensures known { OnOk result (IsKnown facts.new known.new) }
-    ensures marks { AreMarksFor facts.old.shape bad.new }
-    ensures right_each { OnOk result (ForEach (rig_state rig.new) (λ told. TrueIf told facts.new known.new.steps bad.new)) }
-    ensures reached_each { OnOk result (ForEach (rig_state rig.new) (λ told. ReachedIf told facts.new known.new.steps)) }
-    ensures advances { AdvancesButPairs (rig_state rig.old) (rig_state rig.new) facts.old facts.new }
-    ensures loads { (rig_state rig.new).loads ≤ (rig_state rig.old).loads + loads_for facts.old 16 20 }
-    ensures few_each { ForEach (rig_state rig.new) (λ told. IfFaultless told facts.old ((rig_state rig.new).loads ≤ (rig_state
-        rig.old).loads + loads_for facts.old 2 3)) }
+    requires attached { shape_of (rig_state rig.old) ≡ Some knowledge.old.facts.shape }
+    requires coherent { IsCoherent knowledge.old }
+    requires right_each { ForEach (rig_state rig.old) (λ told. TrueOf told knowledge.old) }
+    ensures reached_each { OnOk result (ForEach (rig_state rig.new) (λ told. ReachedIf told knowledge.new.facts knowledge.new.verified.steps)) }
+    ensures progress { ProgressButPairs (rig_state rig.old) (rig_state rig.new) knowledge.old knowledge.new }
+    ensures loads { (rig_state rig.new).loads ≤ (rig_state rig.old).loads + loads_for knowledge.old.facts 16 20 }
+    ensures few_each { ForEach (rig_state rig.new) (λ told. IfFaultless told knowledge.old.facts ((rig_state rig.new).loads ≤ (rig_state
+        rig.old).loads + loads_for knowledge.old.facts 2 3)) }
     ensures cause { IsErrOf result RigFail.Failed → Rose (rig_state rig.old).failures (rig_state rig.new).failures }
 {
-    let Ok(mut state) = first_state(alloc, facts) else {
+    let Ok(mut state) = first_state(alloc, &knowledge.facts) else {
         return Err(RigFail::Memory);
     };
-    let done = know_all(rig, facts, known, bad, &mut state);
+    let done = know_all(rig, knowledge, &mut state);
     parts.sweep = state.swept;
     done
-}
-
-// The known wires of the machine. Where wires are shorted, those stay that pins of tables need, as far as that is found.
-fn known_wires(
-    alloc: Global,
-    rig: &mut Box<dyn Rig>,
-    facts: &mut Facts,
-    bad: &mut DefectMarks,
-    parts: &mut Parts,
-) -> Result<Known, RigFail>
-    requires attached { shape_of (rig_state rig.old) ≡ Some facts.old.shape }
-    requires marks { AreMarksFor facts.old.shape bad.old }
-    requires right_each { (ss : List VerifiedWire) → ForEach (rig_state rig.old) (λ told. TrueIf told facts.old ss bad.old) }
-    requires nothing { (w : ℕ) → is_apart facts.old w ≡ false }
-    ensures known { IfOk result (IsKnown facts.new) }
-    ensures marks { AreMarksFor facts.old.shape bad.new }
-    ensures right_each { IfOk result (λ known. ForEach (rig_state rig.new) (λ told. TrueIf told facts.new known.steps bad.new)) }
-    ensures reached_each { IfOk result (λ known. ForEach (rig_state rig.new) (λ told. ReachedIf told facts.new known.steps)) }
-    ensures advances { AdvancesButPairs (rig_state rig.old) (rig_state rig.new) facts.old facts.new }
-    ensures loads { (rig_state rig.new).loads ≤ (rig_state rig.old).loads + loads_for facts.old 16 20 }
-    ensures few_each { ForEach (rig_state rig.new) (λ told. IfFaultless told facts.old ((rig_state rig.new).loads ≤ (rig_state
-        rig.old).loads + loads_for facts.old 2 3)) }
-    ensures cause { IsErrOf result RigFail.Failed → Rose (rig_state rig.old).failures (rig_state rig.new).failures }
-{
-    let Ok(mut known) = Known::new(alloc, &facts.shape()) else {
-        return Err(RigFail::Memory);
-    };
-    match know_from_first(alloc, rig, facts, &mut known, bad, parts) {
-        Ok(()) => Ok(known),
-        Err(fail) => Err(fail),
-    }
 }
 
 // The tables that aren't marked wrong.
@@ -422,37 +339,42 @@ fn test_all(
     test_tables(rig, facts, known, &tables)
 }
 
-// The diagnosis, with a proof that keeps nothing yet.
+// The diagnosis, where nothing is known yet.
 fn diagnose_with(
     alloc: Global,
     rig: &mut Box<dyn Rig>,
-    facts: &mut Facts,
+    knowledge: &mut Knowledge,
     parts: &mut Parts,
 ) -> Result<Defects, RigFail>
-    requires attached { shape_of (rig_state rig.old) ≡ Some facts.old.shape }
-    requires nothing { KeepsNothing facts.old }
+    requires attached { shape_of (rig_state rig.old) ≡ Some knowledge.old.facts.shape }
+    requires coherent { IsCoherent knowledge.old }
+    requires nothing { KeepsNothing knowledge.old.facts }
+    requires right { (told : Option Faults) → TrueOf told knowledge.old }
 
-    ensures shape { IfOk result (λ d. d.shape ≡ facts.old.shape) }
-    ensures right_each { IfOk result (λ d. ForEach (rig_state rig.new) (λ told. IsDiagnosis told facts.old.shape d.list)) }
-    ensures advances { AdvancesButPairs (rig_state rig.old) (rig_state rig.new) facts.old facts.new }
-    ensures loads { TakesAtMost facts.old.shape (rig_state rig.old).loads (rig_state rig.new).loads }
-    ensures loads_each { ForEach (rig_state rig.new) (λ told. TakesFewLoads told facts.old.shape (rig_state rig.old).loads (rig_state
-        rig.new).loads) }
+    ensures shape { IfOk result (λ d. d.shape ≡ knowledge.old.facts.shape) }
+    ensures right_each { IfOk result (λ d. ForEach (rig_state rig.new) (λ told. IsDiagnosis told knowledge.old.facts.shape d.list)) }
+    ensures advances { AdvancesButPairs (rig_state rig.old) (rig_state rig.new) knowledge.old.facts knowledge.new.facts }
+    ensures loads { TakesAtMost knowledge.old.facts.shape (rig_state rig.old).loads (rig_state rig.new).loads }
+    ensures loads_each { ForEach (rig_state rig.new) (λ told. TakesFewLoads told knowledge.old.facts.shape (rig_state rig.old).loads
+        (rig_state rig.new).loads) }
     ensures cause { IsErrOf result RigFail.Failed → Rose (rig_state rig.old).failures (rig_state rig.new).failures }
 {
     the_numbering_is_sound();
     tight_lists_are_fair();
     kept_facts_are_sound();
-    let Ok(mut bad) = DefectMarks::none(alloc, &facts.shape()) else {
-        return Err(RigFail::Memory);
-    };
     let before = loads_since(rig, 0);
-    let known = known_wires(alloc, rig, facts, &mut bad, parts)?;
+    know_from_first(alloc, rig, knowledge, parts)?;
     parts.growth = loads_since(rig, before).saturating_sub(parts.sweep);
     let before = loads_since(rig, 0);
-    test_all(alloc, rig, facts, &known, &bad)?;
+    test_all(
+        alloc,
+        rig,
+        &mut knowledge.facts,
+        &knowledge.verified,
+        &knowledge.marks,
+    )?;
     parts.tables = loads_since(rig, before);
-    match list_of(alloc, facts, &known) {
+    match list_of(alloc, &knowledge.facts, &knowledge.verified) {
         Ok(list) => Ok(list),
         Err(_) => Err(RigFail::Memory),
     }
@@ -484,10 +406,10 @@ pub fn diagnose_in_parts(
         rig.new).loads) }
     ensures cause { IsErrOf result RigFail.Failed → Rose (rig_state rig.old).failures (rig_state rig.new).failures }
 {
-    let Ok(mut facts) = Facts::new(alloc, *shape) else {
+    let Ok(mut knowledge) = Knowledge::none(alloc, shape) else {
         return Err(RigFail::Memory);
     };
-    diagnose_with(alloc, rig, &mut facts, parts)
+    diagnose_with(alloc, rig, &mut knowledge, parts)
 }
 
 /// Finds what is wrong with the machine that is attached, and lists it. The list covers each set of faults that explains all that

@@ -1,5 +1,6 @@
 -- What is cited above.
 pub mod Marking
+pub mod Cohering
 -- For the proofs of this crate alone.
 mod Going
 mod Paying

@@ -34,8 +34,10 @@ pub use Rattle.diag_known.proofs.Counting.{many_all, many_more, many_size, set_h
 pub use Rattle.diag_known.proofs.Later.{all_still, known_later, known_retaken, learnt, retaken_all}
 pub use Rattle.diag_sweep.specs.declared.budget.LoadBudget.{LoadBudget}
 pub use Rattle.diag_sweep.specs.declared.defect_marks.DefectMarks.{DefectMarks}
+pub use Rattle.diag_sweep.specs.declared.knowledge.Knowledge.{Knowledge}
 pub use Rattle.diag_sweep.specs.Courses.{AreLoose, CanLead, MayTry}
 pub use Rattle.diag_sweep.specs.Marks.{AreMarksFor, AreTrueMarks, HasTable, MarksIn, MarksSome, Pays, TrueIf, is_undecided, undecided}
 pub use Rattle.diag_sweep.specs.Sheets.{AreOn, InputsOn, OutputOn}
 pub use Rattle.diag_sweep.specs.Sights.{Seen, SeesMore}
-pub use Rattle.diag_sweep.specs.Stages.{Goes, GoesYet, Hand, IsFunded, IsHand, IsHandYet, Settles, in_hand}
+pub use Rattle.diag_sweep.specs.Shown.{IsCoherent, Progress, ProgressButPairs, TrueOf}
+pub use Rattle.diag_sweep.specs.Stages.{Goes, GoesYet, Hand, IsFunded, IsHand, IsHandYet, Settles, hand_of, in_hand}

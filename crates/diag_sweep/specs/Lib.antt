@@ -1,4 +1,5 @@
 pub mod Marks
+pub mod Shown
 pub mod Without
 -- For this crate's bodies alone.
 pub mod Stages

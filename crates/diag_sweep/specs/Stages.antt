@@ -7,7 +7,7 @@ use Rattle.diag_evidence.specs.Kept.{Kept}
 use Rattle.diag_known.specs.Vocabulary.{KnownWires, IsKnown, KnowsAll, IsFieldOf, GrowsIn}
 use Rattle.diag_known.specs.declared.field.Field.{Field}
 use Rattle.diag_sweep.specs.{Marks.AreMarksFor, Marks.MarksIn, Marks.TrueIf, Marks.is_undecided, declared.budget.LoadBudget.LoadBudget}
-use Rattle.diag_sweep.specs.declared.defect_marks.DefectMarks.{DefectMarks}
+use Rattle.diag_sweep.specs.declared.{defect_marks.DefectMarks.DefectMarks, knowledge.Knowledge.Knowledge}
 
 -- what is kept, known and found bad, the purse, and the loads so far
 pub record Hand : Type 0 where
@@ -19,6 +19,9 @@ pub record Hand : Type 0 where
 
 abbrev pub in_hand : Kept → KnownWires → DefectMarks → LoadBudget → ℕ → Hand
 in_hand k known bad budget loads = record { kept = k; known = known; bad = bad; budget = budget; loads = loads }
+
+abbrev pub hand_of : Knowledge → LoadBudget → ℕ → Hand
+hand_of k budget loads = in_hand k.facts k.verified k.marks budget loads
 
 -- what is known is known by what is kept and is its set, and all is of one shape
 pub record IsHand (a : Field) (h : Hand) : Type 0 where

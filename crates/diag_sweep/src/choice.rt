@@ -4,16 +4,17 @@ ghost use Rattle.base_io.specs.Counts.{Rose};
 ghost use Rattle.base_bits.specs.Numbers.{has_number, size_of};
 ghost use Rattle.machine_meaning.specs.Faults.{Faults};
 ghost use Rattle.machine_shape.specs.Shape.{crosses_of, wires_of};
-ghost use Rattle.rig.specs.Rig.{ForEach, shape_of};
-ghost use Rattle.diag_evidence.specs.Kept.{Advances, AdvancesButPairs, HoldsFor, IsButPairs};
-ghost use Rattle.diag_known.specs.Vocabulary.{GrowsIn, IsFieldOf, HasWire, InSet, IsKnown, KnownWires, KnowsAll};
-ghost use Rattle.diag_sweep.specs.Marks.{AreMarksFor, MarksButUnfit, MarksIn, TrueIf, worth};
-ghost use Rattle.diag_sweep.specs.Stages.{IsFunded, in_hand};
+ghost use Rattle.rig.specs.Rig.{shape_of};
+ghost use Rattle.diag_evidence.specs.Kept.{HoldsFor, IsButPairs};
+ghost use Rattle.diag_known.specs.Vocabulary.{GrowsIn, IsFieldOf, HasWire, InSet};
+ghost use Rattle.diag_sweep.specs.Marks.{AreMarksFor, MarksButUnfit, MarksIn, worth};
+ghost use Rattle.diag_sweep.specs.Shown.{IsCoherent, Progress, ProgressButPairs, TrueOf};
+ghost use Rattle.diag_sweep.specs.Stages.{IsFunded, hand_of};
 
 use crate::budget::{LoadBudget, loads_of};
-use crate::defect_marks::DefectMarks;
 use crate::held::forget;
 use crate::informing::new_search;
+use crate::knowledge::Knowledge;
 use crate::losing::give_up;
 use crate::sweep_state::{TableSweep, bare_state};
 use crate::tabling::sweep_again;
@@ -93,32 +94,31 @@ impl Choices {
     fn open_purse(
         &mut self,
         rig: &Box<dyn Rig>,
-        facts: &Facts,
-        known: &Known,
-        bad: &DefectMarks,
+        knowledge: &Knowledge,
         field: &Field,
     ) -> Result<(), AllocError>
-        requires field { IsFieldOf facts.now.shape field.now }
-        requires marks { AreMarksFor facts.now.shape bad.now }
+        requires field { IsFieldOf knowledge.now.facts.shape field.now }
+        requires marks { AreMarksFor knowledge.now.facts.shape knowledge.now.marks }
         ensures left { self.new.left ≡ 0 }
         ensures paid { self.new.paid ≡ self.old.paid }
         ensures tables { self.new.table_sweep.tables ≡ self.old.table_sweep.tables }
-        ensures len { OnOk result (length self.new.table_sweep.state.budget.unsettled ≡ crosses_of facts.now.shape) }
-        ensures funded { OnOk result ((known : KnownWires) → IsFunded
-            (worth field.now facts.now bad.now (rig_state rig.now).loads self.old.left) field.now
-            (in_hand facts.now known bad.now self.new.table_sweep.state.budget (rig_state rig.now).loads)) }
+        ensures len { OnOk result (length self.new.table_sweep.state.budget.unsettled ≡ crosses_of knowledge.now.facts.shape) }
+        ensures funded { OnOk result (IsFunded
+            (worth field.now knowledge.now.facts knowledge.now.marks (rig_state rig.now).loads self.old.left) field.now
+            (hand_of knowledge.now self.new.table_sweep.state.budget (rig_state rig.now).loads)) }
     {
+        let alloc = knowledge.verified.alloc();
         let left = self.left;
         self.left = 0;
         self.table_sweep.state.budget = LoadBudget::of(
-            known.alloc(),
+            alloc,
             rig,
-            facts,
-            bad,
+            &knowledge.facts,
+            &knowledge.marks,
             field,
             left,
         )?;
-        self.table_sweep.state.search = new_search(known.alloc(), facts, known, bad, field)?;
+        self.table_sweep.state.search = new_search(alloc, knowledge, field)?;
         forget(&mut self.table_sweep.state.held);
         Ok(())
     }
@@ -160,38 +160,29 @@ fn known_among(known: &Known, wires: &BitSet) -> Result<BitSet, AllocError>
 }
 
 // Of the known wires some give way, and leave the set, if that was chosen. Which wires are unfit isn't known then.
-fn give_way(
-    facts: &mut Facts,
-    known: &mut Known,
-    bad: &mut DefectMarks,
-    chooser: &mut Chooser,
-) -> Result<bool, AllocError>
-    requires known { IsKnown facts.old known.old }
-    requires all { KnowsAll facts.old known.old.steps }
-    requires marks { AreMarksFor facts.old.shape bad.old }
-    ensures known { IsKnown facts.new known.new }
-    ensures all { KnowsAll facts.new known.new.steps }
-    ensures fewer { (w : ℕ) → HasWire known.new.steps w → HasWire known.old.steps w }
-    ensures same { IfOk result (λ chosen. chosen ≡ false → known.new ≡ known.old) }
-    ensures marks { AreMarksFor facts.old.shape bad.new }
-    ensures stuck { bad.new.stuck ≡ bad.old.stuck }
-    ensures unclear { bad.new.unclear ≡ bad.old.unclear }
-    ensures wrong { bad.new.wrong ≡ bad.old.wrong }
-    ensures unfit { (w : ℕ) → has_number bad.new.unfit w ≡ true → has_number bad.old.unfit w ≡ true }
-    ensures dropped { IfOk result (λ chosen. chosen ≡ true → (w : ℕ) → has_number bad.new.unfit w ≡ false) }
-    ensures but { IsButPairs facts.old facts.new }
-    ensures explained { (f : Faults) → HoldsFor facts.old f → HoldsFor facts.new f }
-    ensures right { (told : Option Faults) → TrueIf told facts.old known.old.steps bad.old →
-        TrueIf told facts.new known.new.steps bad.new }
+fn give_way(knowledge: &mut Knowledge, chooser: &mut Chooser) -> Result<bool, AllocError>
+    requires coherent { IsCoherent knowledge.old }
+    ensures coherent { IsCoherent knowledge.new }
+    ensures fewer { (w : ℕ) → HasWire knowledge.new.verified.steps w → HasWire knowledge.old.verified.steps w }
+    ensures same { IfOk result (λ chosen. chosen ≡ false → knowledge.new.verified ≡ knowledge.old.verified) }
+    ensures stuck { knowledge.new.marks.stuck ≡ knowledge.old.marks.stuck }
+    ensures unclear { knowledge.new.marks.unclear ≡ knowledge.old.marks.unclear }
+    ensures wrong { knowledge.new.marks.wrong ≡ knowledge.old.marks.wrong }
+    ensures unfit { (w : ℕ) → has_number knowledge.new.marks.unfit w ≡ true → has_number knowledge.old.marks.unfit w ≡ true }
+    ensures dropped { IfOk result (λ chosen. chosen ≡ true → (w : ℕ) → has_number knowledge.new.marks.unfit w ≡ false) }
+    ensures but { IsButPairs knowledge.old.facts knowledge.new.facts }
+    ensures explained { (f : Faults) → HoldsFor knowledge.old.facts f → HoldsFor knowledge.new.facts f }
+    ensures right { (told : Option Faults) → TrueOf told knowledge.old → TrueOf told knowledge.new }
 {
-    let Some(chosen) = give_up(chooser, facts, bad)? else {
+    let Some(chosen) = give_up(chooser, &knowledge.facts, &knowledge.marks)? else {
         return Ok(false);
     };
-    let stay = known_among(known, &chosen)?;
-    *known = standing(known.alloc(), facts, stay)?;
-    facts.retake(known.wires());
+    let stay = known_among(&knowledge.verified, &chosen)?;
+    let alloc = knowledge.verified.alloc();
+    knowledge.verified = standing(alloc, &knowledge.facts, stay)?;
+    knowledge.facts.retake(knowledge.verified.wires());
     // An unfit wire may have been shorted to one that gives way.
-    bad.unfit.clear();
+    knowledge.marks.unfit.clear();
     Ok(true)
 }
 
@@ -204,51 +195,42 @@ fn give_way(
 /// `Failed` where a call of the rig failed, `Memory` where memory was lacking. What is known, kept and marked is as right as after an `Ok`.
 pub fn choose(
     rig: &mut Box<dyn Rig>,
-    facts: &mut Facts,
-    known: &mut Known,
-    bad: &mut DefectMarks,
+    knowledge: &mut Knowledge,
     field: &Field,
     choices: &mut Choices,
 ) -> Result<bool, RigFail>
-    requires attached { shape_of (rig_state rig.old) ≡ Some facts.old.shape }
-    requires known { IsKnown facts.old known.old }
-    requires all { KnowsAll facts.old known.old.steps }
-    requires field { IsFieldOf facts.old.shape field.now }
-    requires marks { AreMarksFor facts.old.shape bad.old }
+    requires attached { shape_of (rig_state rig.old) ≡ Some knowledge.old.facts.shape }
+    requires coherent { IsCoherent knowledge.old }
+    requires field { IsFieldOf knowledge.old.facts.shape field.now }
 
-    ensures known { IsKnown facts.new known.new }
-    ensures all { KnowsAll facts.new known.new.steps }
-    ensures fewer { (w : ℕ) → HasWire known.new.steps w → HasWire known.old.steps w }
-    ensures same { IfOk result (λ chosen. chosen ≡ false → known.new ≡ known.old) }
-    ensures marks { AreMarksFor facts.old.shape bad.new }
-    ensures marked { MarksButUnfit field.now bad.old bad.new }
-    ensures dropped { IfOk result (λ chosen. chosen ≡ true → (w : ℕ) → has_number bad.new.unfit w ≡ false) }
-    ensures right_each { ForEach (rig_state rig.new) (λ told. TrueIf told facts.old known.old.steps bad.old → TrueIf told facts.new
-        known.new.steps bad.new) }
-    ensures pays { worth field.now facts.new bad.new (rig_state rig.new).loads choices.new.left
-        ≤ worth field.now facts.old bad.old (rig_state rig.old).loads choices.old.left }
+    ensures fewer { (w : ℕ) → HasWire knowledge.new.verified.steps w → HasWire knowledge.old.verified.steps w }
+    ensures same { IfOk result (λ chosen. chosen ≡ false → knowledge.new.verified ≡ knowledge.old.verified) }
+    ensures marked { MarksButUnfit field.now knowledge.old.marks knowledge.new.marks }
+    ensures dropped { IfOk result (λ chosen. chosen ≡ true → (w : ℕ) → has_number knowledge.new.marks.unfit w ≡ false) }
+    ensures pays { worth field.now knowledge.new.facts knowledge.new.marks (rig_state rig.new).loads choices.new.left
+        ≤ worth field.now knowledge.old.facts knowledge.old.marks (rig_state rig.old).loads choices.old.left }
     ensures paid { choices.new.paid ≡ choices.old.paid }
     ensures tables { choices.new.table_sweep.tables ≡ choices.old.table_sweep.tables }
-    ensures advances { AdvancesButPairs (rig_state rig.old) (rig_state rig.new) facts.old facts.new }
+    ensures progress { ProgressButPairs (rig_state rig.old) (rig_state rig.new) knowledge.old knowledge.new }
     ensures cause { IsErrOf result RigFail.Failed → Rose (rig_state rig.old).failures (rig_state rig.new).failures }
 {
     if choices.left == 0 {
         return Ok(false);
     }
-    let Ok(()) = choices.open_purse(rig, facts, known, bad, field) else {
+    let Ok(()) = choices.open_purse(rig, knowledge, field) else {
         return Err(RigFail::Memory);
     };
     choices.table_sweep.state.aim = Aim::Partners;
     tell_all(
         rig,
-        facts,
-        known,
-        bad,
+        &mut knowledge.facts,
+        &knowledge.verified,
+        &mut knowledge.marks,
         field,
         &mut choices.table_sweep.state,
     )?;
-    choices.close_purse(rig, known);
-    match give_way(facts, known, bad, &mut choices.table_sweep.state.chooser) {
+    choices.close_purse(rig, &knowledge.verified);
+    match give_way(knowledge, &mut choices.table_sweep.state.chooser) {
         Ok(chosen) => Ok(chosen),
         Err(_) => Err(RigFail::Memory),
     }
@@ -262,35 +244,27 @@ pub fn choose(
 /// `Failed` where a call of the rig failed, `Memory` where memory was lacking. What is known, kept and marked is as right as after an `Ok`.
 pub fn sweep_with(
     rig: &mut Box<dyn Rig>,
-    facts: &mut Facts,
-    known: &mut Known,
-    bad: &mut DefectMarks,
+    knowledge: &mut Knowledge,
     field: &Field,
     choices: &mut Choices,
 ) -> Result<(), RigFail>
-    requires attached { shape_of (rig_state rig.old) ≡ Some facts.old.shape }
-    requires known { IsKnown facts.old known.old }
-    requires all { KnowsAll facts.old known.old.steps }
-    requires field { IsFieldOf facts.old.shape field.now }
-    requires marks { AreMarksFor facts.old.shape bad.old }
+    requires attached { shape_of (rig_state rig.old) ≡ Some knowledge.old.facts.shape }
+    requires coherent { IsCoherent knowledge.old }
+    requires field { IsFieldOf knowledge.old.facts.shape field.now }
 
-    ensures known { IsKnown facts.new known.new }
-    ensures all { KnowsAll facts.new known.new.steps }
-    ensures grows { GrowsIn field.now known.old.steps known.new.steps }
-    ensures marks { MarksIn field.now choices.old.table_sweep.tables.items bad.old bad.new }
-    ensures right_each { ForEach (rig_state rig.new) (λ told. TrueIf told facts.old known.old.steps bad.old → TrueIf told facts.new
-        known.new.steps bad.new) }
-    ensures pays { worth field.now facts.new bad.new (rig_state rig.new).loads choices.new.left
-        ≤ worth field.now facts.old bad.old (rig_state rig.old).loads choices.old.left }
+    ensures grows { GrowsIn field.now knowledge.old.verified.steps knowledge.new.verified.steps }
+    ensures marks { MarksIn field.now choices.old.table_sweep.tables.items knowledge.old.marks knowledge.new.marks }
+    ensures pays { worth field.now knowledge.new.facts knowledge.new.marks (rig_state rig.new).loads choices.new.left
+        ≤ worth field.now knowledge.old.facts knowledge.old.marks (rig_state rig.old).loads choices.old.left }
     ensures paid { choices.new.paid ≡ choices.old.paid }
     ensures tables { choices.new.table_sweep.tables ≡ choices.old.table_sweep.tables }
-    ensures advances { Advances (rig_state rig.old) (rig_state rig.new) facts.old facts.new }
+    ensures progress { Progress (rig_state rig.old) (rig_state rig.new) knowledge.old knowledge.new }
     ensures cause { IsErrOf result RigFail.Failed → Rose (rig_state rig.old).failures (rig_state rig.new).failures }
 {
-    let Ok(()) = choices.open_purse(rig, facts, known, bad, field) else {
+    let Ok(()) = choices.open_purse(rig, knowledge, field) else {
         return Err(RigFail::Memory);
     };
-    sweep_again(rig, facts, known, bad, field, &mut choices.table_sweep)?;
-    choices.close_purse(rig, known);
+    sweep_again(rig, knowledge, field, &mut choices.table_sweep)?;
+    choices.close_purse(rig, &knowledge.verified);
     Ok(())
 }

@@ -1,8 +1,8 @@
 //! What the search is told before the first load, and after each.
 
 use crate::asking::keeps;
-use crate::defect_marks::DefectMarks;
 use crate::feet::step_of;
+use crate::knowledge::Knowledge;
 use base_bits::BitSet;
 use diag_evidence::Facts;
 use diag_known::{Field, Known};
@@ -54,15 +54,14 @@ pub(crate) fn note_known(
 /// The search before the first load.
 pub(crate) fn new_search(
     alloc: Global,
-    facts: &Facts,
-    known: &Known,
-    bad: &DefectMarks,
+    knowledge: &Knowledge,
     field: &Field,
 ) -> Result<Search, AllocError> {
+    let facts = &knowledge.facts;
     let mut search = Search::new(alloc, &facts.shape())?;
-    mark_crosses(&mut search, facts, field, &bad.stuck);
-    allow_wires(&mut search, facts, field, &bad.unclear);
-    note_known(&mut search, known, 0)?;
+    mark_crosses(&mut search, facts, field, &knowledge.marks.stuck);
+    allow_wires(&mut search, facts, field, &knowledge.marks.unclear);
+    note_known(&mut search, &knowledge.verified, 0)?;
     search.plant()?;
     Ok(search)
 }
@@ -86,18 +85,16 @@ fn note_hang(search: &mut Search, facts: &Facts, stuck: &BitSet, hung: ChosenTes
 /// Looks what came of the wires that were hung. Those that came to be known stand from a place of their order on.
 pub(crate) fn note_hangs(
     search: &mut Search,
-    facts: &Facts,
-    known: &Known,
-    stuck: &BitSet,
+    knowledge: &Knowledge,
     from: usize,
 ) -> Result<(), AllocError> {
     'hangs: for at in 0..search.hanging.chosen.len() {
         if let Some(hung) = search.hanging.chosen.get(at).copied() {
-            note_hang(search, facts, stuck, hung);
+            note_hang(search, &knowledge.facts, &knowledge.marks.stuck, hung);
         }
     }
-    search.count_learnt(known.len().saturating_sub(from));
-    note_known(search, known, from)
+    search.count_learnt(knowledge.verified.len().saturating_sub(from));
+    note_known(search, &knowledge.verified, from)
 }
 
 // Looks what came of the crosspoints of a walk.

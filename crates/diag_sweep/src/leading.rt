@@ -6,13 +6,14 @@ ghost use Rattle.rig.specs.Rig.{shape_of};
 ghost use Rattle.diag_evidence.specs.Kept.{Advances};
 ghost use Rattle.diag_evidence.specs.Forests.{KeepsForest};
 ghost use Rattle.diag_sweep.specs.Marks.{AreMarksFor};
-ghost use Rattle.diag_sweep.specs.Stages.{Goes, IsHand, Settles, in_hand};
+ghost use Rattle.diag_sweep.specs.Stages.{Goes, IsHand, Settles, hand_of, in_hand};
 
 use crate::branching::{course_of, plant_ends};
 use crate::budget::LoadBudget;
 use crate::defect_marks::DefectMarks;
 use crate::held::{begin_held, forget_where, hold};
 use crate::informing::note_walks;
+use crate::knowledge::Knowledge;
 use crate::sweep_state::SweepState;
 use diag_evidence::Facts;
 use diag_known::{Field, Known};
@@ -184,22 +185,27 @@ fn lead_rounds(
 #[tactic(auto, using(crate::proofs::Going::gone_none))]
 pub(crate) fn lead_all(
     rig: &mut Box<dyn Rig>,
-    facts: &mut Facts,
-    known: &Known,
-    bad: &mut DefectMarks,
+    knowledge: &mut Knowledge,
     field: &Field,
     state: &mut SweepState,
 ) -> Result<(), RigFail>
-    requires attached { shape_of (rig_state rig.old) ≡ Some facts.old.shape }
-    requires hand { IsHand field.now (in_hand facts.old known.now bad.old state.old.budget (rig_state rig.old).loads) }
-    ensures goes { Goes (rig_state rig.new) field.now [] (in_hand facts.old known.now bad.old state.old.budget (rig_state rig.old).loads)
-        (in_hand facts.new known.now bad.new state.new.budget (rig_state rig.new).loads) }
-    ensures advances { Advances (rig_state rig.old) (rig_state rig.new) facts.old facts.new }
+    requires attached { shape_of (rig_state rig.old) ≡ Some knowledge.old.facts.shape }
+    requires hand { IsHand field.now (hand_of knowledge.old state.old.budget (rig_state rig.old).loads) }
+    ensures goes { Goes (rig_state rig.new) field.now [] (hand_of knowledge.old state.old.budget (rig_state rig.old).loads)
+        (hand_of knowledge.new state.new.budget (rig_state rig.new).loads) }
+    ensures advances { Advances (rig_state rig.old) (rig_state rig.new) knowledge.old.facts knowledge.new.facts }
     ensures cause { IsErrOf result RigFail.Failed → Rose (rig_state rig.old).failures (rig_state rig.new).failures }
 {
     'depths: for depth in 0..DEPTHS {
         state.depth = depth;
-        lead_rounds(rig, facts, known, bad, field, state)?;
+        lead_rounds(
+            rig,
+            &mut knowledge.facts,
+            &knowledge.verified,
+            &mut knowledge.marks,
+            field,
+            state,
+        )?;
         let Ok(()) = state.search.plant() else {
             return Err(RigFail::Memory);
         };

@@ -2,11 +2,10 @@
 ghost use Rattle.std.specs.Prelude.{◌≡◌, IfOk};
 
 use crate::budget::LoadBudget;
-use crate::defect_marks::DefectMarks;
 use crate::held::{HeldForest, bare_forest};
 use crate::informing::new_search;
-use diag_evidence::Facts;
-use diag_known::{Field, Known};
+use crate::knowledge::Knowledge;
+use diag_known::Field;
 use diag_search::{Aim, Chooser, Search};
 use machine_shape::{Shape, Table};
 use std::alloc::{AllocError, Global};
@@ -52,18 +51,16 @@ pub(crate) fn bare_state(
 
 /// What a sweep has at hand before its first load.
 pub(crate) fn first_state(
-    facts: &Facts,
-    known: &Known,
-    bad: &DefectMarks,
+    knowledge: &Knowledge,
     field: &Field,
     budget: LoadBudget,
     aim: Aim,
 ) -> Result<SweepState, AllocError>
     ensures { IfOk result (λ state. state.budget ≡ budget) }
 {
-    let alloc = known.alloc();
-    let mut state = bare_state(alloc, &facts.shape(), budget, aim)?;
-    state.search = new_search(alloc, facts, known, bad, field)?;
+    let alloc = knowledge.verified.alloc();
+    let mut state = bare_state(alloc, &knowledge.facts.shape(), budget, aim)?;
+    state.search = new_search(alloc, knowledge, field)?;
     Ok(state)
 }
 

@@ -4,12 +4,13 @@ ghost use Rattle.base_io.specs.Counts.{Rose};
 ghost use Rattle.rig.specs.Rig.{shape_of};
 ghost use Rattle.diag_evidence.specs.Kept.{Advances};
 ghost use Rattle.diag_evidence.specs.Forests.{KeepsForest};
-ghost use Rattle.diag_sweep.specs.Stages.{Goes, IsHand, in_hand};
+ghost use Rattle.diag_sweep.specs.Stages.{Goes, IsHand, hand_of, in_hand};
 
 use crate::defect_marks::DefectMarks;
 use crate::fits::{are_fit, are_given, table_forest};
 use crate::held::{begin_held, hold};
 use crate::informing::choose_tables;
+use crate::knowledge::Knowledge;
 use crate::sweep_state::TableSweep;
 use crate::trees::is_known;
 use crate::turns::{sweep_all, sweep_chosen};
@@ -145,33 +146,43 @@ fn test_chip(
 #[tactic(auto, using(crate::proofs::Tabled::tested_none))]
 fn test_tables(
     rig: &mut Box<dyn Rig>,
-    facts: &mut Facts,
-    known: &Known,
-    bad: &mut DefectMarks,
+    knowledge: &mut Knowledge,
     field: &Field,
     table_sweep: &mut TableSweep,
 ) -> Result<(), RigFail>
-    requires attached { shape_of (rig_state rig.old) ≡ Some facts.old.shape }
-    requires hand { IsHand field.now (in_hand facts.old known.now bad.old table_sweep.old.state.budget (rig_state rig.old).loads) }
-    ensures goes { Goes (rig_state rig.new) field.now table_sweep.old.tables.items (in_hand facts.old known.now bad.old
-        table_sweep.old.state.budget (rig_state rig.old).loads) (in_hand facts.new known.now bad.new table_sweep.new.state.budget
+    requires attached { shape_of (rig_state rig.old) ≡ Some knowledge.old.facts.shape }
+    requires hand { IsHand field.now (hand_of knowledge.old table_sweep.old.state.budget (rig_state rig.old).loads) }
+    ensures goes { Goes (rig_state rig.new) field.now table_sweep.old.tables.items (hand_of knowledge.old
+        table_sweep.old.state.budget (rig_state rig.old).loads) (hand_of knowledge.new table_sweep.new.state.budget
         (rig_state rig.new).loads) }
     ensures tables { table_sweep.new.tables ≡ table_sweep.old.tables }
-    ensures advances { Advances (rig_state rig.old) (rig_state rig.new) facts.old facts.new }
+    ensures advances { Advances (rig_state rig.old) (rig_state rig.new) knowledge.old.facts knowledge.new.facts }
     ensures cause { IsErrOf result RigFail.Failed → Rose (rig_state rig.old).failures (rig_state rig.new).failures }
 {
     let Ok(()) = table_sweep.state.search.begin_tables() else {
         return Err(RigFail::Memory);
     };
     let state = &mut table_sweep.state;
-    let Ok(()) = begin_held(&mut state.held, known.alloc(), facts, &state.search.forest) else {
+    let Ok(()) = begin_held(
+        &mut state.held,
+        knowledge.verified.alloc(),
+        &knowledge.facts,
+        &state.search.forest,
+    ) else {
         return Err(RigFail::Memory);
     };
-    'nodes: for node in 0..facts.shape().nodes() {
+    'nodes: for node in 0..knowledge.facts.shape().nodes() {
         if !table_sweep.state.search.go_to_chip(node) {
             continue;
         }
-        test_chip(rig, facts, known, bad, field, table_sweep)?;
+        test_chip(
+            rig,
+            &mut knowledge.facts,
+            &knowledge.verified,
+            &mut knowledge.marks,
+            field,
+            table_sweep,
+        )?;
     }
     Ok(())
 }
@@ -179,42 +190,38 @@ fn test_tables(
 /// Tests what is further and further from the pins of the machine, and then the tables.
 pub(crate) fn sweep_sheet(
     rig: &mut Box<dyn Rig>,
-    facts: &mut Facts,
-    known: &mut Known,
-    bad: &mut DefectMarks,
+    knowledge: &mut Knowledge,
     field: &Field,
     table_sweep: &mut TableSweep,
 ) -> Result<(), RigFail>
-    requires attached { shape_of (rig_state rig.old) ≡ Some facts.old.shape }
-    requires hand { IsHand field.now (in_hand facts.old known.old bad.old table_sweep.old.state.budget (rig_state rig.old).loads) }
-    ensures goes { Goes (rig_state rig.new) field.now table_sweep.old.tables.items (in_hand facts.old known.old bad.old
-        table_sweep.old.state.budget (rig_state rig.old).loads) (in_hand facts.new known.new bad.new table_sweep.new.state.budget
+    requires attached { shape_of (rig_state rig.old) ≡ Some knowledge.old.facts.shape }
+    requires hand { IsHand field.now (hand_of knowledge.old table_sweep.old.state.budget (rig_state rig.old).loads) }
+    ensures goes { Goes (rig_state rig.new) field.now table_sweep.old.tables.items (hand_of knowledge.old
+        table_sweep.old.state.budget (rig_state rig.old).loads) (hand_of knowledge.new table_sweep.new.state.budget
         (rig_state rig.new).loads) }
-    ensures advances { Advances (rig_state rig.old) (rig_state rig.new) facts.old facts.new }
+    ensures advances { Advances (rig_state rig.old) (rig_state rig.new) knowledge.old.facts knowledge.new.facts }
     ensures cause { IsErrOf result RigFail.Failed → Rose (rig_state rig.old).failures (rig_state rig.new).failures }
 {
-    sweep_all(rig, facts, known, bad, field, &mut table_sweep.state)?;
-    test_tables(rig, facts, known, bad, field, table_sweep)
+    sweep_all(rig, knowledge, field, &mut table_sweep.state)?;
+    test_tables(rig, knowledge, field, table_sweep)
 }
 
 /// The same behind a choice.
 pub(crate) fn sweep_again(
     rig: &mut Box<dyn Rig>,
-    facts: &mut Facts,
-    known: &mut Known,
-    bad: &mut DefectMarks,
+    knowledge: &mut Knowledge,
     field: &Field,
     table_sweep: &mut TableSweep,
 ) -> Result<(), RigFail>
-    requires attached { shape_of (rig_state rig.old) ≡ Some facts.old.shape }
-    requires hand { IsHand field.now (in_hand facts.old known.old bad.old table_sweep.old.state.budget (rig_state rig.old).loads) }
-    ensures goes { Goes (rig_state rig.new) field.now table_sweep.old.tables.items (in_hand facts.old known.old bad.old
-        table_sweep.old.state.budget (rig_state rig.old).loads) (in_hand facts.new known.new bad.new table_sweep.new.state.budget
+    requires attached { shape_of (rig_state rig.old) ≡ Some knowledge.old.facts.shape }
+    requires hand { IsHand field.now (hand_of knowledge.old table_sweep.old.state.budget (rig_state rig.old).loads) }
+    ensures goes { Goes (rig_state rig.new) field.now table_sweep.old.tables.items (hand_of knowledge.old
+        table_sweep.old.state.budget (rig_state rig.old).loads) (hand_of knowledge.new table_sweep.new.state.budget
         (rig_state rig.new).loads) }
     ensures tables { table_sweep.new.tables ≡ table_sweep.old.tables }
-    ensures advances { Advances (rig_state rig.old) (rig_state rig.new) facts.old facts.new }
+    ensures advances { Advances (rig_state rig.old) (rig_state rig.new) knowledge.old.facts knowledge.new.facts }
     ensures cause { IsErrOf result RigFail.Failed → Rose (rig_state rig.old).failures (rig_state rig.new).failures }
 {
-    sweep_chosen(rig, facts, known, bad, field, &mut table_sweep.state)?;
-    test_tables(rig, facts, known, bad, field, table_sweep)
+    sweep_chosen(rig, knowledge, field, &mut table_sweep.state)?;
+    test_tables(rig, knowledge, field, table_sweep)
 }

@@ -6,14 +6,14 @@ ghost use Rattle.rig.specs.Rig.{shape_of};
 ghost use Rattle.diag_evidence.specs.Kept.{Advances};
 ghost use Rattle.diag_evidence.specs.Forests.{KeepsForest};
 ghost use Rattle.diag_sweep.specs.Marks.{AreMarksFor};
-ghost use Rattle.diag_sweep.specs.Stages.{Goes, GoesYet, IsHand, Settles, in_hand};
+ghost use Rattle.diag_sweep.specs.Stages.{Goes, GoesYet, IsHand, Settles, hand_of};
 
 use crate::asking::knows;
 use crate::budget::LoadBudget;
-use crate::defect_marks::DefectMarks;
 use crate::hanging::{hang_load, pin_load};
 use crate::held::begin_held;
 use crate::informing::{note_hangs, note_known};
+use crate::knowledge::Knowledge;
 use crate::leading::lead_all;
 use crate::learn::{learn_hangs, learn_pins};
 use crate::sweep_state::SweepState;
@@ -47,25 +47,30 @@ const LEFT_ROUNDS: u32 = 5;
 // Looks at the pins of the machine. Those that can be known are.
 fn pin_test(
     rig: &mut Box<dyn Rig>,
-    facts: &mut Facts,
-    known: &mut Known,
-    bad: &DefectMarks,
+    knowledge: &mut Knowledge,
     field: &Field,
     state: &mut SweepState,
 ) -> Result<(), RigFail>
-    requires attached { shape_of (rig_state rig.old) ≡ Some facts.old.shape }
-    requires hand { IsHand field.now (in_hand facts.old known.old bad.now state.old.budget (rig_state rig.old).loads) }
-    ensures goes { GoesYet (rig_state rig.new) field.now [] (in_hand facts.old known.old bad.now state.old.budget (rig_state rig.old).loads)
-        (in_hand facts.new known.new bad.now state.new.budget (rig_state rig.new).loads) }
-    ensures advances { Advances (rig_state rig.old) (rig_state rig.new) facts.old facts.new }
+    requires attached { shape_of (rig_state rig.old) ≡ Some knowledge.old.facts.shape }
+    requires hand { IsHand field.now (hand_of knowledge.old state.old.budget (rig_state rig.old).loads) }
+    ensures goes { GoesYet (rig_state rig.new) field.now [] (hand_of knowledge.old state.old.budget (rig_state rig.old).loads)
+        (hand_of knowledge.new state.new.budget (rig_state rig.new).loads) }
+    ensures advances { Advances (rig_state rig.old) (rig_state rig.new) knowledge.old.facts knowledge.new.facts }
     ensures cause { IsErrOf result RigFail.Failed → Rose (rig_state rig.old).failures (rig_state rig.new).failures }
 {
-    let before = known.len();
-    pin_load(rig, facts, known, bad, field, state)?;
-    let Ok(()) = learn_pins(known, facts, field) else {
+    let before = knowledge.verified.len();
+    pin_load(
+        rig,
+        &mut knowledge.facts,
+        &knowledge.verified,
+        &knowledge.marks,
+        field,
+        state,
+    )?;
+    let Ok(()) = learn_pins(&mut knowledge.verified, &knowledge.facts, field) else {
         return Err(RigFail::Memory);
     };
-    let Ok(()) = note_known(&mut state.search, known, before) else {
+    let Ok(()) = note_known(&mut state.search, &knowledge.verified, before) else {
         return Err(RigFail::Memory);
     };
     Ok(())
@@ -74,33 +79,31 @@ fn pin_test(
 // The same, and what joined the set and isn't known leaves it.
 fn pin_turn(
     rig: &mut Box<dyn Rig>,
-    facts: &mut Facts,
-    known: &mut Known,
-    bad: &DefectMarks,
+    knowledge: &mut Knowledge,
     field: &Field,
     state: &mut SweepState,
 ) -> Result<(), RigFail>
-    requires attached { shape_of (rig_state rig.old) ≡ Some facts.old.shape }
-    requires hand { IsHand field.now (in_hand facts.old known.old bad.now state.old.budget (rig_state rig.old).loads) }
-    ensures goes { Goes (rig_state rig.new) field.now [] (in_hand facts.old known.old bad.now state.old.budget (rig_state rig.old).loads)
-        (in_hand facts.new known.new bad.now state.new.budget (rig_state rig.new).loads) }
-    ensures advances { Advances (rig_state rig.old) (rig_state rig.new) facts.old facts.new }
+    requires attached { shape_of (rig_state rig.old) ≡ Some knowledge.old.facts.shape }
+    requires hand { IsHand field.now (hand_of knowledge.old state.old.budget (rig_state rig.old).loads) }
+    ensures goes { Goes (rig_state rig.new) field.now [] (hand_of knowledge.old state.old.budget (rig_state rig.old).loads)
+        (hand_of knowledge.new state.new.budget (rig_state rig.new).loads) }
+    ensures advances { Advances (rig_state rig.old) (rig_state rig.new) knowledge.old.facts knowledge.new.facts }
     ensures cause { IsErrOf result RigFail.Failed → Rose (rig_state rig.old).failures (rig_state rig.new).failures }
 {
-    let tested = pin_test(rig, facts, known, bad, field, state);
-    facts.retake(known.wires());
+    let tested = pin_test(rig, knowledge, field, state);
+    knowledge.facts.retake(knowledge.verified.wires());
     tested
 }
 
 // Takes loads in for those crosspoints of hangs that were undecided and aren't any more.
-fn settle_hangs(budget: &mut LoadBudget, facts: &Facts, bad: &DefectMarks, hangs: &Vec<ChosenTest>)
-    requires budget { length budget.old.unsettled ≡ crosses_of facts.now.shape }
-    requires marks { AreMarksFor facts.now.shape bad.now }
-    ensures { Settles facts.now bad.now budget.old budget.new }
+fn settle_hangs(budget: &mut LoadBudget, knowledge: &Knowledge, hangs: &Vec<ChosenTest>)
+    requires budget { length budget.old.unsettled ≡ crosses_of knowledge.now.facts.shape }
+    requires marks { AreMarksFor knowledge.now.facts.shape knowledge.now.marks }
+    ensures { Settles knowledge.now.facts knowledge.now.marks budget.old budget.new }
 {
     'hangs: for k in 0..hangs.len() {
-        budget.settle(facts, bad, hangs[k].first.cross);
-        budget.settle(facts, bad, hangs[k].second.cross);
+        budget.settle(&knowledge.facts, &knowledge.marks, hangs[k].first.cross);
+        budget.settle(&knowledge.facts, &knowledge.marks, hangs[k].second.cross);
     }
 }
 
@@ -122,36 +125,46 @@ fn loads_for_wire(rig: &Box<dyn Rig>, facts: &Facts, state: &SweepState) -> u64 
 // Tests some of the wires that are to be hung in one load, if some are found and it can be paid. False where not.
 fn hang_test(
     rig: &mut Box<dyn Rig>,
-    facts: &mut Facts,
-    known: &mut Known,
-    bad: &mut DefectMarks,
+    knowledge: &mut Knowledge,
     field: &Field,
     state: &mut SweepState,
 ) -> Result<bool, RigFail>
-    requires attached { shape_of (rig_state rig.old) ≡ Some facts.old.shape }
-    requires hand { IsHand field.now (in_hand facts.old known.old bad.old state.old.budget (rig_state rig.old).loads) }
-    requires forest { KeepsForest facts.old state.old.held.forest }
-    ensures goes { GoesYet (rig_state rig.new) field.now [] (in_hand facts.old known.old bad.old state.old.budget (rig_state rig.old).loads)
-        (in_hand facts.new known.new bad.new state.new.budget (rig_state rig.new).loads) }
-    ensures forest { OnOk result (KeepsForest facts.new state.new.held.forest) }
-    ensures advances { Advances (rig_state rig.old) (rig_state rig.new) facts.old facts.new }
+    requires attached { shape_of (rig_state rig.old) ≡ Some knowledge.old.facts.shape }
+    requires hand { IsHand field.now (hand_of knowledge.old state.old.budget (rig_state rig.old).loads) }
+    requires forest { KeepsForest knowledge.old.facts state.old.held.forest }
+    ensures goes { GoesYet (rig_state rig.new) field.now [] (hand_of knowledge.old state.old.budget (rig_state rig.old).loads)
+        (hand_of knowledge.new state.new.budget (rig_state rig.new).loads) }
+    ensures forest { OnOk result (KeepsForest knowledge.new.facts state.new.held.forest) }
+    ensures advances { Advances (rig_state rig.old) (rig_state rig.new) knowledge.old.facts knowledge.new.facts }
     ensures cause { IsErrOf result RigFail.Failed → Rose (rig_state rig.old).failures (rig_state rig.new).failures }
 {
-    let before = known.len();
-    let Ok(()) = state.search.choose_hangs(&bad.unfit) else {
+    let before = knowledge.verified.len();
+    let Ok(()) = state.search.choose_hangs(&knowledge.marks.unfit) else {
         return Err(RigFail::Memory);
     };
-    let loads = loads_for_wire(rig, facts, state);
+    let loads = loads_for_wire(rig, &knowledge.facts, state);
     state.search.save_load(loads);
     if state.search.hanging.chosen.is_empty() || !state.budget.can_pay(rig, 3) {
         return Ok(false);
     }
-    hang_load(rig, facts, known, bad, field, state)?;
-    settle_hangs(&mut state.budget, facts, bad, &state.search.hanging.chosen);
-    let Ok(()) = learn_hangs(known, facts, field, &state.search.hanging.chosen) else {
+    hang_load(
+        rig,
+        &mut knowledge.facts,
+        &knowledge.verified,
+        &mut knowledge.marks,
+        field,
+        state,
+    )?;
+    settle_hangs(&mut state.budget, knowledge, &state.search.hanging.chosen);
+    let Ok(()) = learn_hangs(
+        &mut knowledge.verified,
+        &knowledge.facts,
+        field,
+        &state.search.hanging.chosen,
+    ) else {
         return Err(RigFail::Memory);
     };
-    let Ok(()) = note_hangs(&mut state.search, facts, known, &bad.stuck, before) else {
+    let Ok(()) = note_hangs(&mut state.search, knowledge, before) else {
         return Err(RigFail::Memory);
     };
     Ok(true)
@@ -160,23 +173,21 @@ fn hang_test(
 // The same, and what joined the set and isn't known leaves it.
 fn hang_turn(
     rig: &mut Box<dyn Rig>,
-    facts: &mut Facts,
-    known: &mut Known,
-    bad: &mut DefectMarks,
+    knowledge: &mut Knowledge,
     field: &Field,
     state: &mut SweepState,
 ) -> Result<bool, RigFail>
-    requires attached { shape_of (rig_state rig.old) ≡ Some facts.old.shape }
-    requires hand { IsHand field.now (in_hand facts.old known.old bad.old state.old.budget (rig_state rig.old).loads) }
-    requires forest { KeepsForest facts.old state.old.held.forest }
-    ensures goes { Goes (rig_state rig.new) field.now [] (in_hand facts.old known.old bad.old state.old.budget (rig_state rig.old).loads)
-        (in_hand facts.new known.new bad.new state.new.budget (rig_state rig.new).loads) }
-    ensures forest { OnOk result (KeepsForest facts.new state.new.held.forest) }
-    ensures advances { Advances (rig_state rig.old) (rig_state rig.new) facts.old facts.new }
+    requires attached { shape_of (rig_state rig.old) ≡ Some knowledge.old.facts.shape }
+    requires hand { IsHand field.now (hand_of knowledge.old state.old.budget (rig_state rig.old).loads) }
+    requires forest { KeepsForest knowledge.old.facts state.old.held.forest }
+    ensures goes { Goes (rig_state rig.new) field.now [] (hand_of knowledge.old state.old.budget (rig_state rig.old).loads)
+        (hand_of knowledge.new state.new.budget (rig_state rig.new).loads) }
+    ensures forest { OnOk result (KeepsForest knowledge.new.facts state.new.held.forest) }
+    ensures advances { Advances (rig_state rig.old) (rig_state rig.new) knowledge.old.facts knowledge.new.facts }
     ensures cause { IsErrOf result RigFail.Failed → Rose (rig_state rig.old).failures (rig_state rig.new).failures }
 {
-    let tested = hang_test(rig, facts, known, bad, field, state);
-    facts.retake(known.wires());
+    let tested = hang_test(rig, knowledge, field, state);
+    knowledge.facts.retake(knowledge.verified.wires());
     tested
 }
 
@@ -184,24 +195,27 @@ fn hang_turn(
 #[tactic(auto, using(crate::proofs::Holding::held_none))]
 fn hang_wanted(
     rig: &mut Box<dyn Rig>,
-    facts: &mut Facts,
-    known: &mut Known,
-    bad: &mut DefectMarks,
+    knowledge: &mut Knowledge,
     field: &Field,
     state: &mut SweepState,
 ) -> Result<(), RigFail>
-    requires attached { shape_of (rig_state rig.old) ≡ Some facts.old.shape }
-    requires hand { IsHand field.now (in_hand facts.old known.old bad.old state.old.budget (rig_state rig.old).loads) }
-    ensures goes { Goes (rig_state rig.new) field.now [] (in_hand facts.old known.old bad.old state.old.budget (rig_state rig.old).loads)
-        (in_hand facts.new known.new bad.new state.new.budget (rig_state rig.new).loads) }
-    ensures advances { Advances (rig_state rig.old) (rig_state rig.new) facts.old facts.new }
+    requires attached { shape_of (rig_state rig.old) ≡ Some knowledge.old.facts.shape }
+    requires hand { IsHand field.now (hand_of knowledge.old state.old.budget (rig_state rig.old).loads) }
+    ensures goes { Goes (rig_state rig.new) field.now [] (hand_of knowledge.old state.old.budget (rig_state rig.old).loads)
+        (hand_of knowledge.new state.new.budget (rig_state rig.new).loads) }
+    ensures advances { Advances (rig_state rig.old) (rig_state rig.new) knowledge.old.facts knowledge.new.facts }
     ensures cause { IsErrOf result RigFail.Failed → Rose (rig_state rig.old).failures (rig_state rig.new).failures }
 {
-    let Ok(()) = begin_held(&mut state.held, known.alloc(), facts, &state.search.forest) else {
+    let Ok(()) = begin_held(
+        &mut state.held,
+        knowledge.verified.alloc(),
+        &knowledge.facts,
+        &state.search.forest,
+    ) else {
         return Err(RigFail::Memory);
     };
     'loads: for _load in 0..MOST_LOADS {
-        if !hang_turn(rig, facts, known, bad, field, state)? {
+        if !hang_turn(rig, knowledge, field, state)? {
             return Ok(());
         }
     }
@@ -212,67 +226,64 @@ fn hang_wanted(
 // the crosspoints are stuck. So where wires of one height hang on few trees, as feet are drawn anew behind it.
 fn refill(
     rig: &mut Box<dyn Rig>,
-    facts: &mut Facts,
-    known: &Known,
-    bad: &mut DefectMarks,
+    knowledge: &mut Knowledge,
     field: &Field,
     state: &mut SweepState,
 ) -> Result<(), RigFail>
-    requires attached { shape_of (rig_state rig.old) ≡ Some facts.old.shape }
-    requires hand { IsHand field.now (in_hand facts.old known.now bad.old state.old.budget (rig_state rig.old).loads) }
-    ensures goes { Goes (rig_state rig.new) field.now [] (in_hand facts.old known.now bad.old state.old.budget (rig_state rig.old).loads)
-        (in_hand facts.new known.now bad.new state.new.budget (rig_state rig.new).loads) }
-    ensures advances { Advances (rig_state rig.old) (rig_state rig.new) facts.old facts.new }
+    requires attached { shape_of (rig_state rig.old) ≡ Some knowledge.old.facts.shape }
+    requires hand { IsHand field.now (hand_of knowledge.old state.old.budget (rig_state rig.old).loads) }
+    ensures goes { Goes (rig_state rig.new) field.now [] (hand_of knowledge.old state.old.budget (rig_state rig.old).loads)
+        (hand_of knowledge.new state.new.budget (rig_state rig.new).loads) }
+    ensures advances { Advances (rig_state rig.old) (rig_state rig.new) knowledge.old.facts knowledge.new.facts }
     ensures cause { IsErrOf result RigFail.Failed → Rose (rig_state rig.old).failures (rig_state rig.new).failures }
 {
-    if !state.search.is_crowded() && !state.budget.is_low(rig, facts, LEAST_LOADS) {
+    if !state.search.is_crowded() && !state.budget.is_low(rig, &knowledge.facts, LEAST_LOADS) {
         return Ok(());
     }
-    lead_all(rig, facts, known, bad, field, state)
+    lead_all(rig, knowledge, field, state)
 }
 
 // Tests the wires that are to be hung, and then crosspoints, where few loads are left.
 fn sweep_height(
     rig: &mut Box<dyn Rig>,
-    facts: &mut Facts,
-    known: &mut Known,
-    bad: &mut DefectMarks,
+    knowledge: &mut Knowledge,
     field: &Field,
     state: &mut SweepState,
 ) -> Result<(), RigFail>
-    requires attached { shape_of (rig_state rig.old) ≡ Some facts.old.shape }
-    requires hand { IsHand field.now (in_hand facts.old known.old bad.old state.old.budget (rig_state rig.old).loads) }
-    ensures goes { Goes (rig_state rig.new) field.now [] (in_hand facts.old known.old bad.old state.old.budget (rig_state rig.old).loads)
-        (in_hand facts.new known.new bad.new state.new.budget (rig_state rig.new).loads) }
-    ensures advances { Advances (rig_state rig.old) (rig_state rig.new) facts.old facts.new }
+    requires attached { shape_of (rig_state rig.old) ≡ Some knowledge.old.facts.shape }
+    requires hand { IsHand field.now (hand_of knowledge.old state.old.budget (rig_state rig.old).loads) }
+    ensures goes { Goes (rig_state rig.new) field.now [] (hand_of knowledge.old state.old.budget (rig_state rig.old).loads)
+        (hand_of knowledge.new state.new.budget (rig_state rig.new).loads) }
+    ensures advances { Advances (rig_state rig.old) (rig_state rig.new) knowledge.old.facts knowledge.new.facts }
     ensures cause { IsErrOf result RigFail.Failed → Rose (rig_state rig.old).failures (rig_state rig.new).failures }
 {
-    hang_wanted(rig, facts, known, bad, field, state)?;
-    refill(rig, facts, known, bad, field, state)
+    hang_wanted(rig, knowledge, field, state)?;
+    refill(rig, knowledge, field, state)
 }
 
 // Tests the wires of each height once more.
 #[tactic(auto, using(crate::proofs::Going::gone_none))]
 fn sweep_heights(
     rig: &mut Box<dyn Rig>,
-    facts: &mut Facts,
-    known: &mut Known,
-    bad: &mut DefectMarks,
+    knowledge: &mut Knowledge,
     field: &Field,
     state: &mut SweepState,
 ) -> Result<(), RigFail>
-    requires attached { shape_of (rig_state rig.old) ≡ Some facts.old.shape }
-    requires hand { IsHand field.now (in_hand facts.old known.old bad.old state.old.budget (rig_state rig.old).loads) }
-    ensures goes { Goes (rig_state rig.new) field.now [] (in_hand facts.old known.old bad.old state.old.budget (rig_state rig.old).loads)
-        (in_hand facts.new known.new bad.new state.new.budget (rig_state rig.new).loads) }
-    ensures advances { Advances (rig_state rig.old) (rig_state rig.new) facts.old facts.new }
+    requires attached { shape_of (rig_state rig.old) ≡ Some knowledge.old.facts.shape }
+    requires hand { IsHand field.now (hand_of knowledge.old state.old.budget (rig_state rig.old).loads) }
+    ensures goes { Goes (rig_state rig.new) field.now [] (hand_of knowledge.old state.old.budget (rig_state rig.old).loads)
+        (hand_of knowledge.new state.new.budget (rig_state rig.new).loads) }
+    ensures advances { Advances (rig_state rig.old) (rig_state rig.new) knowledge.old.facts knowledge.new.facts }
     ensures cause { IsErrOf result RigFail.Failed → Rose (rig_state rig.old).failures (rig_state rig.new).failures }
 {
     'heights: for height in 1..=MOST_HEIGHT {
-        let Ok(()) = state.search.want_height(&bad.unfit, height, state.on_any) else {
+        let Ok(()) = state
+            .search
+            .want_height(&knowledge.marks.unfit, height, state.on_any)
+        else {
             return Err(RigFail::Memory);
         };
-        sweep_height(rig, facts, known, bad, field, state)?;
+        sweep_height(rig, knowledge, field, state)?;
     }
     Ok(())
 }
@@ -280,68 +291,69 @@ fn sweep_heights(
 // Looks for wires that are unfit, and then tests those of each height.
 fn sweep_pass(
     rig: &mut Box<dyn Rig>,
-    facts: &mut Facts,
-    known: &mut Known,
-    bad: &mut DefectMarks,
+    knowledge: &mut Knowledge,
     field: &Field,
     state: &mut SweepState,
 ) -> Result<(), RigFail>
-    requires attached { shape_of (rig_state rig.old) ≡ Some facts.old.shape }
-    requires hand { IsHand field.now (in_hand facts.old known.old bad.old state.old.budget (rig_state rig.old).loads) }
-    ensures goes { Goes (rig_state rig.new) field.now [] (in_hand facts.old known.old bad.old state.old.budget (rig_state rig.old).loads)
-        (in_hand facts.new known.new bad.new state.new.budget (rig_state rig.new).loads) }
-    ensures advances { Advances (rig_state rig.old) (rig_state rig.new) facts.old facts.new }
+    requires attached { shape_of (rig_state rig.old) ≡ Some knowledge.old.facts.shape }
+    requires hand { IsHand field.now (hand_of knowledge.old state.old.budget (rig_state rig.old).loads) }
+    ensures goes { Goes (rig_state rig.new) field.now [] (hand_of knowledge.old state.old.budget (rig_state rig.old).loads)
+        (hand_of knowledge.new state.new.budget (rig_state rig.new).loads) }
+    ensures advances { Advances (rig_state rig.old) (rig_state rig.new) knowledge.old.facts knowledge.new.facts }
     ensures cause { IsErrOf result RigFail.Failed → Rose (rig_state rig.old).failures (rig_state rig.new).failures }
 {
-    tell_all(rig, facts, known, bad, field, state)?;
+    tell_all(
+        rig,
+        &mut knowledge.facts,
+        &knowledge.verified,
+        &mut knowledge.marks,
+        field,
+        state,
+    )?;
     state.search.forget_tries();
-    sweep_heights(rig, facts, known, bad, field, state)
+    sweep_heights(rig, knowledge, field, state)
 }
 
 // Makes a pass, and then tests the crosspoints between known wires.
 fn sweep_round(
     rig: &mut Box<dyn Rig>,
-    facts: &mut Facts,
-    known: &mut Known,
-    bad: &mut DefectMarks,
+    knowledge: &mut Knowledge,
     field: &Field,
     state: &mut SweepState,
 ) -> Result<(), RigFail>
-    requires attached { shape_of (rig_state rig.old) ≡ Some facts.old.shape }
-    requires hand { IsHand field.now (in_hand facts.old known.old bad.old state.old.budget (rig_state rig.old).loads) }
-    ensures goes { Goes (rig_state rig.new) field.now [] (in_hand facts.old known.old bad.old state.old.budget (rig_state rig.old).loads)
-        (in_hand facts.new known.new bad.new state.new.budget (rig_state rig.new).loads) }
-    ensures advances { Advances (rig_state rig.old) (rig_state rig.new) facts.old facts.new }
+    requires attached { shape_of (rig_state rig.old) ≡ Some knowledge.old.facts.shape }
+    requires hand { IsHand field.now (hand_of knowledge.old state.old.budget (rig_state rig.old).loads) }
+    ensures goes { Goes (rig_state rig.new) field.now [] (hand_of knowledge.old state.old.budget (rig_state rig.old).loads)
+        (hand_of knowledge.new state.new.budget (rig_state rig.new).loads) }
+    ensures advances { Advances (rig_state rig.old) (rig_state rig.new) knowledge.old.facts knowledge.new.facts }
     ensures cause { IsErrOf result RigFail.Failed → Rose (rig_state rig.old).failures (rig_state rig.new).failures }
 {
-    sweep_pass(rig, facts, known, bad, field, state)?;
-    lead_all(rig, facts, known, bad, field, state)
+    sweep_pass(rig, knowledge, field, state)?;
+    lead_all(rig, knowledge, field, state)
 }
 
 // The same. False where no wire came to be known and no crosspoint was decided, though loads were made whatever they bring or weren't
 // few. Later passes hang wires on any known ones.
 fn pass_turn(
     rig: &mut Box<dyn Rig>,
-    facts: &mut Facts,
-    known: &mut Known,
-    bad: &mut DefectMarks,
+    knowledge: &mut Knowledge,
     field: &Field,
     state: &mut SweepState,
 ) -> Result<bool, RigFail>
-    requires attached { shape_of (rig_state rig.old) ≡ Some facts.old.shape }
-    requires hand { IsHand field.now (in_hand facts.old known.old bad.old state.old.budget (rig_state rig.old).loads) }
-    ensures goes { Goes (rig_state rig.new) field.now [] (in_hand facts.old known.old bad.old state.old.budget (rig_state rig.old).loads)
-        (in_hand facts.new known.new bad.new state.new.budget (rig_state rig.new).loads) }
-    ensures advances { Advances (rig_state rig.old) (rig_state rig.new) facts.old facts.new }
+    requires attached { shape_of (rig_state rig.old) ≡ Some knowledge.old.facts.shape }
+    requires hand { IsHand field.now (hand_of knowledge.old state.old.budget (rig_state rig.old).loads) }
+    ensures goes { Goes (rig_state rig.new) field.now [] (hand_of knowledge.old state.old.budget (rig_state rig.old).loads)
+        (hand_of knowledge.new state.new.budget (rig_state rig.new).loads) }
+    ensures advances { Advances (rig_state rig.old) (rig_state rig.new) knowledge.old.facts knowledge.new.facts }
     ensures cause { IsErrOf result RigFail.Failed → Rose (rig_state rig.old).failures (rig_state rig.new).failures }
 {
-    let before = known.len();
+    let before = knowledge.verified.len();
     let decided = state.search.decided();
-    sweep_round(rig, facts, known, bad, field, state)?;
+    sweep_round(rig, knowledge, field, state)?;
     state.aim = Aim::Rest;
     state.on_any = true;
-    let has_learnt = known.len() > before || state.search.decided() > decided;
-    let goes_on = has_learnt || (!state.spends && state.budget.is_low(rig, facts, 0));
+    let has_learnt = knowledge.verified.len() > before || state.search.decided() > decided;
+    let goes_on = has_learnt || (!state.spends && state.budget.is_low(rig, &knowledge.facts, 0));
     state.spends = !has_learnt;
     Ok(goes_on)
 }
@@ -350,24 +362,22 @@ fn pass_turn(
 #[tactic(auto, using(crate::proofs::Going::gone_none))]
 fn sweep_passes(
     rig: &mut Box<dyn Rig>,
-    facts: &mut Facts,
-    known: &mut Known,
-    bad: &mut DefectMarks,
+    knowledge: &mut Knowledge,
     field: &Field,
     state: &mut SweepState,
 ) -> Result<(), RigFail>
-    requires attached { shape_of (rig_state rig.old) ≡ Some facts.old.shape }
-    requires hand { IsHand field.now (in_hand facts.old known.old bad.old state.old.budget (rig_state rig.old).loads) }
-    ensures goes { Goes (rig_state rig.new) field.now [] (in_hand facts.old known.old bad.old state.old.budget (rig_state rig.old).loads)
-        (in_hand facts.new known.new bad.new state.new.budget (rig_state rig.new).loads) }
-    ensures advances { Advances (rig_state rig.old) (rig_state rig.new) facts.old facts.new }
+    requires attached { shape_of (rig_state rig.old) ≡ Some knowledge.old.facts.shape }
+    requires hand { IsHand field.now (hand_of knowledge.old state.old.budget (rig_state rig.old).loads) }
+    ensures goes { Goes (rig_state rig.new) field.now [] (hand_of knowledge.old state.old.budget (rig_state rig.old).loads)
+        (hand_of knowledge.new state.new.budget (rig_state rig.new).loads) }
+    ensures advances { Advances (rig_state rig.old) (rig_state rig.new) knowledge.old.facts knowledge.new.facts }
     ensures cause { IsErrOf result RigFail.Failed → Rose (rig_state rig.old).failures (rig_state rig.new).failures }
 {
     state.aim = Aim::Again;
     state.on_any = false;
     state.spends = false;
     'passes: for _pass in 0..MOST_PASSES {
-        if !pass_turn(rig, facts, known, bad, field, state)? {
+        if !pass_turn(rig, knowledge, field, state)? {
             return Ok(());
         }
     }
@@ -377,26 +387,34 @@ fn sweep_passes(
 // Looks at what is left, and hangs it, few wires at a time. False where nothing was left.
 fn left_turn(
     rig: &mut Box<dyn Rig>,
-    facts: &mut Facts,
-    known: &mut Known,
-    bad: &mut DefectMarks,
+    knowledge: &mut Knowledge,
     field: &Field,
     state: &mut SweepState,
 ) -> Result<bool, RigFail>
-    requires attached { shape_of (rig_state rig.old) ≡ Some facts.old.shape }
-    requires hand { IsHand field.now (in_hand facts.old known.old bad.old state.old.budget (rig_state rig.old).loads) }
-    ensures goes { Goes (rig_state rig.new) field.now [] (in_hand facts.old known.old bad.old state.old.budget (rig_state rig.old).loads)
-        (in_hand facts.new known.new bad.new state.new.budget (rig_state rig.new).loads) }
-    ensures advances { Advances (rig_state rig.old) (rig_state rig.new) facts.old facts.new }
+    requires attached { shape_of (rig_state rig.old) ≡ Some knowledge.old.facts.shape }
+    requires hand { IsHand field.now (hand_of knowledge.old state.old.budget (rig_state rig.old).loads) }
+    ensures goes { Goes (rig_state rig.new) field.now [] (hand_of knowledge.old state.old.budget (rig_state rig.old).loads)
+        (hand_of knowledge.new state.new.budget (rig_state rig.new).loads) }
+    ensures advances { Advances (rig_state rig.old) (rig_state rig.new) knowledge.old.facts knowledge.new.facts }
     ensures cause { IsErrOf result RigFail.Failed → Rose (rig_state rig.old).failures (rig_state rig.new).failures }
 {
     state.aim = Aim::Left;
-    tell_all(rig, facts, known, bad, field, state)?;
+    tell_all(
+        rig,
+        &mut knowledge.facts,
+        &knowledge.verified,
+        &mut knowledge.marks,
+        field,
+        state,
+    )?;
     state.search.forget_tries();
-    let Ok(()) = state.chooser.hint_left(&mut state.search, &bad.unfit) else {
+    let Ok(()) = state
+        .chooser
+        .hint_left(&mut state.search, &knowledge.marks.unfit)
+    else {
         return Err(RigFail::Memory);
     };
-    hang_wanted(rig, facts, known, bad, field, state)?;
+    hang_wanted(rig, knowledge, field, state)?;
     Ok(!state.chooser.wanted.is_empty())
 }
 
@@ -404,21 +422,19 @@ fn left_turn(
 #[tactic(auto, using(crate::proofs::Going::gone_none))]
 fn sweep_left(
     rig: &mut Box<dyn Rig>,
-    facts: &mut Facts,
-    known: &mut Known,
-    bad: &mut DefectMarks,
+    knowledge: &mut Knowledge,
     field: &Field,
     state: &mut SweepState,
 ) -> Result<(), RigFail>
-    requires attached { shape_of (rig_state rig.old) ≡ Some facts.old.shape }
-    requires hand { IsHand field.now (in_hand facts.old known.old bad.old state.old.budget (rig_state rig.old).loads) }
-    ensures goes { Goes (rig_state rig.new) field.now [] (in_hand facts.old known.old bad.old state.old.budget (rig_state rig.old).loads)
-        (in_hand facts.new known.new bad.new state.new.budget (rig_state rig.new).loads) }
-    ensures advances { Advances (rig_state rig.old) (rig_state rig.new) facts.old facts.new }
+    requires attached { shape_of (rig_state rig.old) ≡ Some knowledge.old.facts.shape }
+    requires hand { IsHand field.now (hand_of knowledge.old state.old.budget (rig_state rig.old).loads) }
+    ensures goes { Goes (rig_state rig.new) field.now [] (hand_of knowledge.old state.old.budget (rig_state rig.old).loads)
+        (hand_of knowledge.new state.new.budget (rig_state rig.new).loads) }
+    ensures advances { Advances (rig_state rig.old) (rig_state rig.new) knowledge.old.facts knowledge.new.facts }
     ensures cause { IsErrOf result RigFail.Failed → Rose (rig_state rig.old).failures (rig_state rig.new).failures }
 {
     'rounds: for _round in 0..LEFT_ROUNDS {
-        if !left_turn(rig, facts, known, bad, field, state)? {
+        if !left_turn(rig, knowledge, field, state)? {
             return Ok(());
         }
     }
@@ -428,65 +444,59 @@ fn sweep_left(
 // The same, and then tests the crosspoints between known wires, where some wires came to be known.
 fn sweep_remains(
     rig: &mut Box<dyn Rig>,
-    facts: &mut Facts,
-    known: &mut Known,
-    bad: &mut DefectMarks,
+    knowledge: &mut Knowledge,
     field: &Field,
     state: &mut SweepState,
 ) -> Result<(), RigFail>
-    requires attached { shape_of (rig_state rig.old) ≡ Some facts.old.shape }
-    requires hand { IsHand field.now (in_hand facts.old known.old bad.old state.old.budget (rig_state rig.old).loads) }
-    ensures goes { Goes (rig_state rig.new) field.now [] (in_hand facts.old known.old bad.old state.old.budget (rig_state rig.old).loads)
-        (in_hand facts.new known.new bad.new state.new.budget (rig_state rig.new).loads) }
-    ensures advances { Advances (rig_state rig.old) (rig_state rig.new) facts.old facts.new }
+    requires attached { shape_of (rig_state rig.old) ≡ Some knowledge.old.facts.shape }
+    requires hand { IsHand field.now (hand_of knowledge.old state.old.budget (rig_state rig.old).loads) }
+    ensures goes { Goes (rig_state rig.new) field.now [] (hand_of knowledge.old state.old.budget (rig_state rig.old).loads)
+        (hand_of knowledge.new state.new.budget (rig_state rig.new).loads) }
+    ensures advances { Advances (rig_state rig.old) (rig_state rig.new) knowledge.old.facts knowledge.new.facts }
     ensures cause { IsErrOf result RigFail.Failed → Rose (rig_state rig.old).failures (rig_state rig.new).failures }
 {
-    let before = known.len();
-    sweep_left(rig, facts, known, bad, field, state)?;
-    if known.len() <= before {
+    let before = knowledge.verified.len();
+    sweep_left(rig, knowledge, field, state)?;
+    if knowledge.verified.len() <= before {
         return Ok(());
     }
-    lead_all(rig, facts, known, bad, field, state)
+    lead_all(rig, knowledge, field, state)
 }
 
 // Makes all passes, and looks for what is left then.
 fn sweep_rest(
     rig: &mut Box<dyn Rig>,
-    facts: &mut Facts,
-    known: &mut Known,
-    bad: &mut DefectMarks,
+    knowledge: &mut Knowledge,
     field: &Field,
     state: &mut SweepState,
 ) -> Result<(), RigFail>
-    requires attached { shape_of (rig_state rig.old) ≡ Some facts.old.shape }
-    requires hand { IsHand field.now (in_hand facts.old known.old bad.old state.old.budget (rig_state rig.old).loads) }
-    ensures goes { Goes (rig_state rig.new) field.now [] (in_hand facts.old known.old bad.old state.old.budget (rig_state rig.old).loads)
-        (in_hand facts.new known.new bad.new state.new.budget (rig_state rig.new).loads) }
-    ensures advances { Advances (rig_state rig.old) (rig_state rig.new) facts.old facts.new }
+    requires attached { shape_of (rig_state rig.old) ≡ Some knowledge.old.facts.shape }
+    requires hand { IsHand field.now (hand_of knowledge.old state.old.budget (rig_state rig.old).loads) }
+    ensures goes { Goes (rig_state rig.new) field.now [] (hand_of knowledge.old state.old.budget (rig_state rig.old).loads)
+        (hand_of knowledge.new state.new.budget (rig_state rig.new).loads) }
+    ensures advances { Advances (rig_state rig.old) (rig_state rig.new) knowledge.old.facts knowledge.new.facts }
     ensures cause { IsErrOf result RigFail.Failed → Rose (rig_state rig.old).failures (rig_state rig.new).failures }
 {
-    sweep_passes(rig, facts, known, bad, field, state)?;
-    sweep_remains(rig, facts, known, bad, field, state)
+    sweep_passes(rig, knowledge, field, state)?;
+    sweep_remains(rig, knowledge, field, state)
 }
 
 /// Looks at the pins of the machine, and tests what is further and further from them.
 pub(crate) fn sweep_all(
     rig: &mut Box<dyn Rig>,
-    facts: &mut Facts,
-    known: &mut Known,
-    bad: &mut DefectMarks,
+    knowledge: &mut Knowledge,
     field: &Field,
     state: &mut SweepState,
 ) -> Result<(), RigFail>
-    requires attached { shape_of (rig_state rig.old) ≡ Some facts.old.shape }
-    requires hand { IsHand field.now (in_hand facts.old known.old bad.old state.old.budget (rig_state rig.old).loads) }
-    ensures goes { Goes (rig_state rig.new) field.now [] (in_hand facts.old known.old bad.old state.old.budget (rig_state rig.old).loads)
-        (in_hand facts.new known.new bad.new state.new.budget (rig_state rig.new).loads) }
-    ensures advances { Advances (rig_state rig.old) (rig_state rig.new) facts.old facts.new }
+    requires attached { shape_of (rig_state rig.old) ≡ Some knowledge.old.facts.shape }
+    requires hand { IsHand field.now (hand_of knowledge.old state.old.budget (rig_state rig.old).loads) }
+    ensures goes { Goes (rig_state rig.new) field.now [] (hand_of knowledge.old state.old.budget (rig_state rig.old).loads)
+        (hand_of knowledge.new state.new.budget (rig_state rig.new).loads) }
+    ensures advances { Advances (rig_state rig.old) (rig_state rig.new) knowledge.old.facts knowledge.new.facts }
     ensures cause { IsErrOf result RigFail.Failed → Rose (rig_state rig.old).failures (rig_state rig.new).failures }
 {
-    pin_turn(rig, facts, known, bad, field, state)?;
-    sweep_rest(rig, facts, known, bad, field, state)
+    pin_turn(rig, knowledge, field, state)?;
+    sweep_rest(rig, knowledge, field, state)
 }
 
 // Whether all pins of the machine are known.
@@ -503,87 +513,82 @@ fn knows_pins(known: &Known) -> bool {
 // Looks at the pins of the machine, unless all are known.
 fn pins_left(
     rig: &mut Box<dyn Rig>,
-    facts: &mut Facts,
-    known: &mut Known,
-    bad: &mut DefectMarks,
+    knowledge: &mut Knowledge,
     field: &Field,
     state: &mut SweepState,
 ) -> Result<(), RigFail>
-    requires attached { shape_of (rig_state rig.old) ≡ Some facts.old.shape }
-    requires hand { IsHand field.now (in_hand facts.old known.old bad.old state.old.budget (rig_state rig.old).loads) }
-    ensures goes { Goes (rig_state rig.new) field.now [] (in_hand facts.old known.old bad.old state.old.budget (rig_state rig.old).loads)
-        (in_hand facts.new known.new bad.new state.new.budget (rig_state rig.new).loads) }
-    ensures advances { Advances (rig_state rig.old) (rig_state rig.new) facts.old facts.new }
+    requires attached { shape_of (rig_state rig.old) ≡ Some knowledge.old.facts.shape }
+    requires hand { IsHand field.now (hand_of knowledge.old state.old.budget (rig_state rig.old).loads) }
+    ensures goes { Goes (rig_state rig.new) field.now [] (hand_of knowledge.old state.old.budget (rig_state rig.old).loads)
+        (hand_of knowledge.new state.new.budget (rig_state rig.new).loads) }
+    ensures advances { Advances (rig_state rig.old) (rig_state rig.new) knowledge.old.facts knowledge.new.facts }
     ensures cause { IsErrOf result RigFail.Failed → Rose (rig_state rig.old).failures (rig_state rig.new).failures }
 {
-    if knows_pins(known) {
+    if knows_pins(&knowledge.verified) {
         return Ok(());
     }
-    pin_turn(rig, facts, known, bad, field, state)
+    pin_turn(rig, knowledge, field, state)
 }
 
 // Tests the wires for which others gave way.
 fn hang_first(
     rig: &mut Box<dyn Rig>,
-    facts: &mut Facts,
-    known: &mut Known,
-    bad: &mut DefectMarks,
+    knowledge: &mut Knowledge,
     field: &Field,
     state: &mut SweepState,
 ) -> Result<(), RigFail>
-    requires attached { shape_of (rig_state rig.old) ≡ Some facts.old.shape }
-    requires hand { IsHand field.now (in_hand facts.old known.old bad.old state.old.budget (rig_state rig.old).loads) }
-    ensures goes { Goes (rig_state rig.new) field.now [] (in_hand facts.old known.old bad.old state.old.budget (rig_state rig.old).loads)
-        (in_hand facts.new known.new bad.new state.new.budget (rig_state rig.new).loads) }
-    ensures advances { Advances (rig_state rig.old) (rig_state rig.new) facts.old facts.new }
+    requires attached { shape_of (rig_state rig.old) ≡ Some knowledge.old.facts.shape }
+    requires hand { IsHand field.now (hand_of knowledge.old state.old.budget (rig_state rig.old).loads) }
+    ensures goes { Goes (rig_state rig.new) field.now [] (hand_of knowledge.old state.old.budget (rig_state rig.old).loads)
+        (hand_of knowledge.new state.new.budget (rig_state rig.new).loads) }
+    ensures advances { Advances (rig_state rig.old) (rig_state rig.new) knowledge.old.facts knowledge.new.facts }
     ensures cause { IsErrOf result RigFail.Failed → Rose (rig_state rig.old).failures (rig_state rig.new).failures }
 {
     state.spends = true;
     state.search.forget_tries();
-    let Ok(()) = state.chooser.hint(&mut state.search, &bad.unfit) else {
+    let Ok(()) = state
+        .chooser
+        .hint(&mut state.search, &knowledge.marks.unfit)
+    else {
         return Err(RigFail::Memory);
     };
-    hang_wanted(rig, facts, known, bad, field, state)
+    hang_wanted(rig, knowledge, field, state)
 }
 
 // Looks at the pins that are left, and then tests the wires for which others gave way, as often again as others: else what gave way may
 // be known before them.
 fn first_turns(
     rig: &mut Box<dyn Rig>,
-    facts: &mut Facts,
-    known: &mut Known,
-    bad: &mut DefectMarks,
+    knowledge: &mut Knowledge,
     field: &Field,
     state: &mut SweepState,
 ) -> Result<(), RigFail>
-    requires attached { shape_of (rig_state rig.old) ≡ Some facts.old.shape }
-    requires hand { IsHand field.now (in_hand facts.old known.old bad.old state.old.budget (rig_state rig.old).loads) }
-    ensures goes { Goes (rig_state rig.new) field.now [] (in_hand facts.old known.old bad.old state.old.budget (rig_state rig.old).loads)
-        (in_hand facts.new known.new bad.new state.new.budget (rig_state rig.new).loads) }
-    ensures advances { Advances (rig_state rig.old) (rig_state rig.new) facts.old facts.new }
+    requires attached { shape_of (rig_state rig.old) ≡ Some knowledge.old.facts.shape }
+    requires hand { IsHand field.now (hand_of knowledge.old state.old.budget (rig_state rig.old).loads) }
+    ensures goes { Goes (rig_state rig.new) field.now [] (hand_of knowledge.old state.old.budget (rig_state rig.old).loads)
+        (hand_of knowledge.new state.new.budget (rig_state rig.new).loads) }
+    ensures advances { Advances (rig_state rig.old) (rig_state rig.new) knowledge.old.facts knowledge.new.facts }
     ensures cause { IsErrOf result RigFail.Failed → Rose (rig_state rig.old).failures (rig_state rig.new).failures }
 {
-    pins_left(rig, facts, known, bad, field, state)?;
-    hang_first(rig, facts, known, bad, field, state)?;
-    hang_first(rig, facts, known, bad, field, state)
+    pins_left(rig, knowledge, field, state)?;
+    hang_first(rig, knowledge, field, state)?;
+    hang_first(rig, knowledge, field, state)
 }
 
 /// The same behind a choice: first the wires for which others gave way.
 pub(crate) fn sweep_chosen(
     rig: &mut Box<dyn Rig>,
-    facts: &mut Facts,
-    known: &mut Known,
-    bad: &mut DefectMarks,
+    knowledge: &mut Knowledge,
     field: &Field,
     state: &mut SweepState,
 ) -> Result<(), RigFail>
-    requires attached { shape_of (rig_state rig.old) ≡ Some facts.old.shape }
-    requires hand { IsHand field.now (in_hand facts.old known.old bad.old state.old.budget (rig_state rig.old).loads) }
-    ensures goes { Goes (rig_state rig.new) field.now [] (in_hand facts.old known.old bad.old state.old.budget (rig_state rig.old).loads)
-        (in_hand facts.new known.new bad.new state.new.budget (rig_state rig.new).loads) }
-    ensures advances { Advances (rig_state rig.old) (rig_state rig.new) facts.old facts.new }
+    requires attached { shape_of (rig_state rig.old) ≡ Some knowledge.old.facts.shape }
+    requires hand { IsHand field.now (hand_of knowledge.old state.old.budget (rig_state rig.old).loads) }
+    ensures goes { Goes (rig_state rig.new) field.now [] (hand_of knowledge.old state.old.budget (rig_state rig.old).loads)
+        (hand_of knowledge.new state.new.budget (rig_state rig.new).loads) }
+    ensures advances { Advances (rig_state rig.old) (rig_state rig.new) knowledge.old.facts knowledge.new.facts }
     ensures cause { IsErrOf result RigFail.Failed → Rose (rig_state rig.old).failures (rig_state rig.new).failures }
 {
-    first_turns(rig, facts, known, bad, field, state)?;
-    sweep_rest(rig, facts, known, bad, field, state)
+    first_turns(rig, knowledge, field, state)?;
+    sweep_rest(rig, knowledge, field, state)
 }

@@ -1,17 +1,16 @@
 //! The whole sweep.
 ghost use Rattle.std.specs.Prelude.{◌≡◌, Some, IsErrOf};
 ghost use Rattle.base_io.specs.Counts.{Rose};
-ghost use Rattle.rig.specs.Rig.{ForEach, shape_of};
-ghost use Rattle.diag_evidence.specs.Kept.{Advances};
-ghost use Rattle.diag_known.specs.Vocabulary.{IsFieldOf, GrowsIn, IsKnown, KnowsAll};
-ghost use Rattle.diag_sweep.specs.Marks.{AreMarksFor, MarksIn, Pays, TrueIf};
+ghost use Rattle.rig.specs.Rig.{shape_of};
+ghost use Rattle.diag_known.specs.Vocabulary.{IsFieldOf, GrowsIn};
+ghost use Rattle.diag_sweep.specs.Marks.{MarksIn, Pays};
+ghost use Rattle.diag_sweep.specs.Shown.{IsCoherent, Progress};
 
 use crate::budget::LoadBudget;
-use crate::defect_marks::DefectMarks;
+use crate::knowledge::Knowledge;
 use crate::sweep_state::{TableSweep, first_state};
 use crate::tabling::sweep_sheet;
-use diag_evidence::Facts;
-use diag_known::{Field, Known};
+use diag_known::Field;
 use diag_search::Aim;
 use machine_shape::Table;
 use rig::{Rig, RigFail};
@@ -25,43 +24,30 @@ use rig::{Rig, RigFail};
 /// `Failed` where a call of the rig failed, `Memory` where memory was lacking. What is known, kept and marked is as right as after an `Ok`.
 pub fn sweep(
     rig: &mut Box<dyn Rig>,
-    facts: &mut Facts,
-    known: &mut Known,
-    bad: &mut DefectMarks,
+    knowledge: &mut Knowledge,
     field: &Field,
     tables: &[Table],
 ) -> Result<(), RigFail>
-    requires attached { shape_of (rig_state rig.old) ≡ Some facts.old.shape }
-    requires known { IsKnown facts.old known.old }
-    requires all { KnowsAll facts.old known.old.steps }
-    requires field { IsFieldOf facts.old.shape field.now }
-    requires marks { AreMarksFor facts.old.shape bad.old }
+    requires attached { shape_of (rig_state rig.old) ≡ Some knowledge.old.facts.shape }
+    requires coherent { IsCoherent knowledge.old }
+    requires field { IsFieldOf knowledge.old.facts.shape field.now }
 
-    ensures known { IsKnown facts.new known.new }
-    ensures all { KnowsAll facts.new known.new.steps }
-    ensures grows { GrowsIn field.now known.old.steps known.new.steps }
-    ensures marks { MarksIn field.now tables.now bad.old bad.new }
-    ensures right_each { ForEach (rig_state rig.new) (λ told. TrueIf told facts.old known.old.steps bad.old → TrueIf told facts.new
-        known.new.steps bad.new) }
-    ensures pays { Pays field.now facts.old bad.old (rig_state rig.old).loads facts.new bad.new (rig_state rig.new).loads }
-    ensures advances { Advances (rig_state rig.old) (rig_state rig.new) facts.old facts.new }
+    ensures grows { GrowsIn field.now knowledge.old.verified.steps knowledge.new.verified.steps }
+    ensures marks { MarksIn field.now tables.now knowledge.old.marks knowledge.new.marks }
+    ensures pays { Pays field.now knowledge.old.facts knowledge.old.marks (rig_state rig.old).loads knowledge.new.facts
+        knowledge.new.marks (rig_state rig.new).loads }
+    ensures progress { Progress (rig_state rig.old) (rig_state rig.new) knowledge.old knowledge.new }
     ensures cause { IsErrOf result RigFail.Failed → Rose (rig_state rig.old).failures (rig_state rig.new).failures }
 {
-    let Ok(budget) = LoadBudget::new(known.alloc(), rig, facts, bad, field) else {
+    let alloc = knowledge.verified.alloc();
+    let Ok(budget) = LoadBudget::new(alloc, rig, &knowledge.facts, &knowledge.marks, field) else {
         return Err(RigFail::Memory);
     };
-    let Ok(state) = first_state(facts, known, bad, field, budget, Aim::Rest) else {
+    let Ok(state) = first_state(knowledge, field, budget, Aim::Rest) else {
         return Err(RigFail::Memory);
     };
-    let Ok(tables) = Vec::from_slice(known.alloc(), tables) else {
+    let Ok(tables) = Vec::from_slice(alloc, tables) else {
         return Err(RigFail::Memory);
     };
-    sweep_sheet(
-        rig,
-        facts,
-        known,
-        bad,
-        field,
-        &mut TableSweep { state, tables },
-    )
+    sweep_sheet(rig, knowledge, field, &mut TableSweep { state, tables })
 }

@@ -8,12 +8,12 @@ ghost use Rattle.example_diagnoses.specs.Stages.{IsStageOf};
 use crate::fields::{Task, draw_part, whole};
 use crate::judge::{Call, Judge, Loads, judge_of};
 use crate::marked::sweep_is_right;
-use crate::picture::{Picture, Stage};
+use crate::picture::Picture;
 use crate::steps::{
     choices_of, choose_stage, first_stage, grow_stage, sweep_chosen, sweep_stage, test_stage,
 };
 use base_random::Draws;
-use diag_sweep::Choices;
+use diag_sweep::{Choices, Knowledge};
 use machine_faults::FaultSet;
 use machine_shape::Shape;
 use rig::Rig;
@@ -32,7 +32,7 @@ pub enum Way {
 fn make(
     alloc: Global,
     rig: &mut Box<dyn Rig>,
-    stage: &mut Stage,
+    stage: &mut Knowledge,
     task: &Task,
     choices: &mut Choices,
     call: Call,
@@ -56,7 +56,7 @@ fn make(
 fn make_counted(
     alloc: Global,
     rig: &mut Box<dyn Rig>,
-    stage: &mut Stage,
+    stage: &mut Knowledge,
     task: &Task,
     choices: &mut Choices,
     call: Call,
@@ -76,7 +76,7 @@ fn make_counted(
 // Makes a call, and looks at what it leaves.
 fn once(
     rig: &mut Box<dyn Rig>,
-    stage: &mut Stage,
+    stage: &mut Knowledge,
     judge: &Judge,
     task: &Task,
     choices: &mut Choices,
@@ -100,7 +100,7 @@ fn once(
 // A sweep.
 fn sweep_once(
     rig: &mut Box<dyn Rig>,
-    stage: &mut Stage,
+    stage: &mut Knowledge,
     judge: &Judge,
     task: &Task,
 ) -> Result<(), &'static str>
@@ -119,7 +119,7 @@ fn sweep_once(
 // A choice, the sweep behind it, and a growth in what isn't marked.
 fn choose_and_grow(
     rig: &mut Box<dyn Rig>,
-    stage: &mut Stage,
+    stage: &mut Knowledge,
     judge: &Judge,
     task: &Task,
     choices: &mut Choices,
@@ -138,7 +138,7 @@ fn choose_and_grow(
 // All calls but the tests of tables.
 fn know_task(
     rig: &mut Box<dyn Rig>,
-    stage: &mut Stage,
+    stage: &mut Knowledge,
     judge: &Judge,
     task: &Task,
 ) -> Result<(), &'static str>
@@ -158,7 +158,7 @@ fn know_task(
 // The tests of tables, and how many loads they took.
 fn test_counted(
     rig: &mut Box<dyn Rig>,
-    stage: &mut Stage,
+    stage: &mut Knowledge,
     task: &Task,
 ) -> Result<Loads, &'static str>
     requires attached { shape_of (rig_state rig.old) ≡ Some stage.old.facts.shape }
@@ -174,7 +174,7 @@ fn test_counted(
 // The tests of tables, and a look at what they leave.
 fn test_once(
     rig: &mut Box<dyn Rig>,
-    stage: &mut Stage,
+    stage: &mut Knowledge,
     judge: &Judge,
     task: &Task,
 ) -> Result<(), &'static str>
@@ -194,7 +194,7 @@ fn test_once(
 // All calls over a part of the machine.
 fn know_part(
     rig: &mut Box<dyn Rig>,
-    stage: &mut Stage,
+    stage: &mut Knowledge,
     judge: &Judge,
     draws: &mut Draws,
 ) -> Result<(), &'static str>
@@ -212,7 +212,7 @@ fn know_part(
 // A sweep of all of the machine, or first all calls over a part of it, and then all of them over all of it.
 fn know_whole(
     rig: &mut Box<dyn Rig>,
-    stage: &mut Stage,
+    stage: &mut Knowledge,
     judge: &Judge,
     draws: &mut Draws,
     all: &Task,
@@ -236,7 +236,7 @@ fn know_whole(
 // The same, and what is known behind it.
 fn know_stage(
     rig: &mut Box<dyn Rig>,
-    stage: &mut Stage,
+    stage: &mut Knowledge,
     judge: &Judge,
     draws: &mut Draws,
     way: Way,

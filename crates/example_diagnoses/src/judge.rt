@@ -4,10 +4,11 @@ use crate::budget::{most_of_growth, most_of_sweep, most_of_tables, worth};
 use crate::closed::{free_by_facts, is_closed};
 use crate::flags::Parts;
 use crate::looks::is_tight;
-use crate::picture::{Picture, Stage, picture_of};
+use crate::picture::{Picture, picture_of};
 use crate::sight::{Sight, all_hold, sight_of};
 use crate::wrongs::{Wrongs, wrongs_of};
 use crate::{kept_facts, marks};
+use diag_sweep::Knowledge;
 use machine_faults::FaultSet;
 use std::alloc::Global;
 
@@ -95,7 +96,7 @@ fn shrinks(before: &Picture, after: &Picture) -> Result<(), &'static str> {
 
 impl Judge {
     /// The picture of now.
-    pub fn picture(&self, stage: &Stage) -> Result<Picture, &'static str> {
+    pub fn picture(&self, stage: &Knowledge) -> Result<Picture, &'static str> {
         match picture_of(self.alloc, stage) {
             Ok(picture) => Ok(picture),
             Err(_) => Err("no memory"),
@@ -175,7 +176,7 @@ impl Judge {
         call: Call,
         area: &Parts,
         before: &Picture,
-        stage: &Stage,
+        stage: &Knowledge,
         made: Result<Loads, &'static str>,
     ) -> Result<(), &'static str> {
         let loads = made?;

@@ -5,17 +5,9 @@ ghost use Rattle.machine_shape.specs.Shape.{tables_of, wires_of};
 use crate::flags::Flags;
 use diag_evidence::Facts;
 use diag_known::{Known, VerifiedWire};
-use diag_sweep::DefectMarks;
+use diag_sweep::{DefectMarks, Knowledge};
 use machine_shape::{Cross, Table, Wire};
 use std::alloc::{AllocError, Global};
-
-/// What a diagnosis has of a machine between two calls.
-#[derive(Drop)]
-pub struct Stage {
-    pub facts: Facts,
-    pub known: Known,
-    pub bad: DefectMarks,
-}
 
 /// The facts that are kept. Pairs stand in the order of their higher wires, and then of their lower ones; cells in that of their
 /// tables, 64 of each.
@@ -175,15 +167,15 @@ fn add_marks(marks: &mut Marks, bad: &DefectMarks) -> Result<(), AllocError> {
     marks.wrong.add_set(&bad.wrong)
 }
 
-fn fill(picture: &mut Picture, stage: &Stage) -> Result<(), AllocError> {
+fn fill(picture: &mut Picture, stage: &Knowledge) -> Result<(), AllocError> {
     add_kept(&mut picture.kept, &stage.facts)?;
-    add_steps(&mut picture.known.steps, &stage.known)?;
-    add_known(&mut picture.known.wires, &stage.known)?;
-    add_marks(&mut picture.marks, &stage.bad)
+    add_steps(&mut picture.known.steps, &stage.verified)?;
+    add_known(&mut picture.known.wires, &stage.verified)?;
+    add_marks(&mut picture.marks, &stage.marks)
 }
 
 /// What is kept, known and marked now.
-pub fn picture_of(alloc: Global, stage: &Stage) -> Result<Picture, AllocError> {
+pub fn picture_of(alloc: Global, stage: &Knowledge) -> Result<Picture, AllocError> {
     let mut picture = Picture::empty(alloc);
     match fill(&mut picture, stage) {
         Ok(()) => Ok(picture),

@@ -2,69 +2,23 @@
 ghost use Rattle.std.specs.Prelude.{◌≡◌, ◌<◌, All, Some, IfOk};
 ghost use Rattle.rig.specs.Rig.{shape_of};
 ghost use Rattle.machine_shape.specs.Shape.{tables_of};
-ghost use Rattle.diag_evidence.specs.Kept.{KeepsNothing};
-ghost use Rattle.diag_known.specs.Vocabulary.{IsFieldOf, IsKnown, KnowsAll};
-ghost use Rattle.diag_sweep.specs.Marks.{AreMarksFor};
+ghost use Rattle.diag_known.specs.Vocabulary.{IsFieldOf};
 ghost use Rattle.example_diagnoses.specs.Stages.{IsStageOf};
 
 use crate::fields::Task;
-use crate::picture::Stage;
-use diag_evidence::Facts;
 use diag_growth::{grow, test_tables};
-use diag_known::{Field, Known};
-use diag_sweep::{Choices, DefectMarks, choose, sweep, sweep_with, without_bad};
+use diag_known::Field;
+use diag_sweep::{Choices, Knowledge, choose, sweep, sweep_with, without_bad};
 use machine_shape::{Shape, Table};
 use rig::Rig;
 use std::alloc::Global;
 
-// What is kept, known and marked, of one machine.
-fn stage_of(shape: &Shape, facts: Facts, known: Known, bad: DefectMarks) -> Stage
-    requires shape { facts.shape ≡ shape.now }
-    requires known { IsKnown facts known }
-    requires all { KnowsAll facts known.steps }
-    requires marks { AreMarksFor shape.now bad }
-    ensures { IsStageOf shape.now result }
-{
-    let _shape = shape;
-    Stage { facts, known, bad }
-}
-
-// The same with these facts and what is known by them, where nothing is marked.
-fn unmarked_stage(
-    alloc: Global,
-    shape: &Shape,
-    facts: Facts,
-    known: Known,
-) -> Result<Stage, &'static str>
-    requires shape { facts.shape ≡ shape.now }
-    requires known { IsKnown facts known }
-    requires all { KnowsAll facts known.steps }
-    ensures { IfOk result (IsStageOf shape.now) }
-{
-    match DefectMarks::none(alloc, shape) {
-        Ok(bad) => Ok(stage_of(shape, facts, known, bad)),
-        Err(_) => Err("no memory"),
-    }
-}
-
-// The same with these facts, where nothing is known.
-fn stage_by(alloc: Global, shape: &Shape, facts: Facts) -> Result<Stage, &'static str>
-    requires shape { facts.shape ≡ shape.now }
-    requires nothing { KeepsNothing facts }
-    ensures { IfOk result (IsStageOf shape.now) }
-{
-    match Known::new(alloc, shape) {
-        Ok(known) => unmarked_stage(alloc, shape, facts, known),
-        Err(_) => Err("no memory"),
-    }
-}
-
 /// Nothing is kept, known or marked.
-pub fn first_stage(alloc: Global, shape: &Shape) -> Result<Stage, &'static str>
+pub fn first_stage(alloc: Global, shape: &Shape) -> Result<Knowledge, &'static str>
     ensures { IfOk result (IsStageOf shape.now) }
 {
-    match Facts::new(alloc, *shape) {
-        Ok(facts) => stage_by(alloc, shape, facts),
+    match Knowledge::none(alloc, shape) {
+        Ok(stage) => Ok(stage),
         Err(_) => Err("no memory"),
     }
 }
@@ -72,7 +26,7 @@ pub fn first_stage(alloc: Global, shape: &Shape) -> Result<Stage, &'static str>
 /// A sweep of a field and some tables.
 pub fn sweep_stage(
     rig: &mut Box<dyn Rig>,
-    stage: &mut Stage,
+    stage: &mut Knowledge,
     task: &Task,
 ) -> Result<(), &'static str>
     requires attached { shape_of (rig_state rig.old) ≡ Some stage.old.facts.shape }
@@ -81,23 +35,16 @@ pub fn sweep_stage(
     ensures attached { shape_of (rig_state rig.new) ≡ Some stage.old.facts.shape }
     ensures stage { IsStageOf stage.old.facts.shape stage.new }
 {
-    let swept = sweep(
-        rig,
-        &mut stage.facts,
-        &mut stage.known,
-        &mut stage.bad,
-        &task.field,
-        &task.tables,
-    );
+    let swept = sweep(rig, stage, &task.field, &task.tables);
     swept.ok().ok_or("no sweep")
 }
 
 /// Choices of which none was made, with the loads that unfit wires are worth.
-pub fn choices_of(stage: &Stage, task: &Task) -> Result<Choices, &'static str> {
-    let choices = Choices::new(stage.known.alloc(), &stage.facts, &task.tables);
+pub fn choices_of(stage: &Knowledge, task: &Task) -> Result<Choices, &'static str> {
+    let choices = Choices::new(stage.verified.alloc(), &stage.facts, &task.tables);
     match choices {
         Ok(mut choices) => {
-            choices.pay_for(&stage.bad.unfit);
+            choices.pay_for(&stage.marks.unfit);
             Ok(choices)
         }
         Err(_) => Err("no memory"),
@@ -107,7 +54,7 @@ pub fn choices_of(stage: &Stage, task: &Task) -> Result<Choices, &'static str> {
 /// A choice between shorted wires.
 pub fn choose_stage(
     rig: &mut Box<dyn Rig>,
-    stage: &mut Stage,
+    stage: &mut Knowledge,
     task: &Task,
     choices: &mut Choices,
 ) -> Result<(), &'static str>
@@ -117,14 +64,7 @@ pub fn choose_stage(
     ensures attached { shape_of (rig_state rig.new) ≡ Some stage.old.facts.shape }
     ensures stage { IsStageOf stage.old.facts.shape stage.new }
 {
-    let chosen = choose(
-        rig,
-        &mut stage.facts,
-        &mut stage.known,
-        &mut stage.bad,
-        &task.field,
-        choices,
-    );
+    let chosen = choose(rig, stage, &task.field, choices);
     match chosen {
         Ok(_) => Ok(()),
         Err(_) => Err("no choice"),
@@ -134,7 +74,7 @@ pub fn choose_stage(
 /// The sweep behind a choice.
 pub fn sweep_chosen(
     rig: &mut Box<dyn Rig>,
-    stage: &mut Stage,
+    stage: &mut Knowledge,
     task: &Task,
     choices: &mut Choices,
 ) -> Result<(), &'static str>
@@ -144,26 +84,19 @@ pub fn sweep_chosen(
     ensures attached { shape_of (rig_state rig.new) ≡ Some stage.old.facts.shape }
     ensures stage { IsStageOf stage.old.facts.shape stage.new }
 {
-    let swept = sweep_with(
-        rig,
-        &mut stage.facts,
-        &mut stage.known,
-        &mut stage.bad,
-        &task.field,
-        choices,
-    );
+    let swept = sweep_with(rig, stage, &task.field, choices);
     swept.ok().ok_or("no sweep behind a choice")
 }
 
 // A growth in a field.
-fn grow_in(rig: &mut Box<dyn Rig>, stage: &mut Stage, field: &Field) -> Result<(), &'static str>
+fn grow_in(rig: &mut Box<dyn Rig>, stage: &mut Knowledge, field: &Field) -> Result<(), &'static str>
     requires attached { shape_of (rig_state rig.old) ≡ Some stage.old.facts.shape }
     requires stage { IsStageOf stage.old.facts.shape stage.old }
     requires field { IsFieldOf stage.old.facts.shape field.now }
     ensures attached { shape_of (rig_state rig.new) ≡ Some stage.old.facts.shape }
     ensures stage { IsStageOf stage.old.facts.shape stage.new }
 {
-    let grown = grow(rig, &mut stage.facts, &mut stage.known, field);
+    let grown = grow(rig, &mut stage.facts, &mut stage.verified, field);
     grown.ok().ok_or("no growth")
 }
 
@@ -171,7 +104,7 @@ fn grow_in(rig: &mut Box<dyn Rig>, stage: &mut Stage, field: &Field) -> Result<(
 pub fn grow_stage(
     alloc: Global,
     rig: &mut Box<dyn Rig>,
-    stage: &mut Stage,
+    stage: &mut Knowledge,
     task: &Task,
 ) -> Result<(), &'static str>
     requires attached { shape_of (rig_state rig.old) ≡ Some stage.old.facts.shape }
@@ -180,7 +113,7 @@ pub fn grow_stage(
     ensures attached { shape_of (rig_state rig.new) ≡ Some stage.old.facts.shape }
     ensures stage { IsStageOf stage.old.facts.shape stage.new }
 {
-    match without_bad(alloc, &stage.bad, &task.field) {
+    match without_bad(alloc, &stage.marks, &task.field) {
         Ok(rest) => grow_in(rig, stage, &rest),
         Err(_) => Err("no memory"),
     }
@@ -189,13 +122,13 @@ pub fn grow_stage(
 /// The tests of these tables.
 pub fn test_stage(
     rig: &mut Box<dyn Rig>,
-    stage: &mut Stage,
+    stage: &mut Knowledge,
     tables: &[Table],
 ) -> Result<(), &'static str>
     requires attached { shape_of (rig_state rig.old) ≡ Some stage.old.facts.shape }
     requires stage { IsStageOf stage.old.facts.shape stage.old }
     requires tables { All (λ t. t.0 < tables_of stage.old.facts.shape) tables.now }
 {
-    let tested = test_tables(rig, &mut stage.facts, &stage.known, tables);
+    let tested = test_tables(rig, &mut stage.facts, &stage.verified, tables);
     tested.ok().ok_or("no tests of tables")
 }

@@ -1,4 +1,4 @@
-use Rattle.diag_sweep.proofs.Vocabulary.{[], in_hand}
+use Rattle.diag_sweep.proofs.Vocabulary.{[], hand_of}
 use Rattle.diag_sweep.proofs.Going.{HasGone}
 use Rattle.diag_sweep.proofs.turns.sweep_passes.Given as goal
 
@@ -6,4 +6,4 @@ abbrev pub invariant-passes : goal.invariant-passes
 invariant-passes g l =
     let first = (goal.Rig-dyn g (l.fn.rig.vtable, l.fn.rig.value)).rig_state l.fn.rig.value in
     let now = (goal.Rig-dyn g (l.rig.vtable, l.rig.value)).rig_state l.rig.value in
-    HasGone first now l.fn.facts l.facts l.field [] (in_hand l.fn.facts l.fn.known l.fn.bad l.fn.state.budget first.loads) (in_hand l.facts l.known l.bad l.state.budget now.loads)
+    HasGone first now l.fn.knowledge.facts l.knowledge.facts l.field [] (hand_of l.fn.knowledge l.fn.state.budget first.loads) (hand_of l.knowledge l.state.budget now.loads)
